@@ -1,16 +1,16 @@
 -- What the whole build shares and no layer owns: an answer that is a value or a refusal, tests in a row, and a test
 -- that every element of a list, or every number below a bound, passes. Each has its laws beside it.
 use mathlib.Core.Path.{_≡_, refl, sym, ap, _∙_, subst}
-use mathlib.Core.Logic.{⊎-elim}
+use mathlib.Core.Logic.{⊎-elim, _↔_}
 use mathlib.Core.Bool.{Bool, true, false, not, _&&_}
 use mathlib.Core.Option.{Option, none, some}
-use mathlib.Core.List.{List, [], _∷_}
+use mathlib.Core.List.{List, [], _∷_, _++_}
 use Prim.Native.Nat.{ℕ, zero, suc, _<_}
 use native.Mathlib.Nat.{le-of-suc-le-suc, not-suc-le-zero, eq-or-lt-of-le}
 use native.Mathlib.Omega.{arith}
 use lib.Dec.{T}
 use lib.ListN.{length, getD}
-use mir.Facts.{and-yes}
+use mir.Facts.{and-yes, yes-and}
 
 -- ---- An answer
 
@@ -73,6 +73,11 @@ module _ {R A : Type 0} where
   found-given none n rest e = not-given e
   found-given (some b) n rest e = (b, refl, e)
 
+  -- where there is a value: this one, with the rest that it leads to
+  pub found-exactly : {B : Type 0} (o : Option B) (n : R) (rest : B → Answer R A) (a : A)
+      → (found o n rest ≡ given a) ↔ ((b : B) × (o ≡ some b) × (rest b ≡ given a))
+  found-exactly o n rest a = (found-given o n rest, λ (b, e, h). found-yes n rest e h)
+
   -- to show something of a row of tests, show it of each refusal and of the end
   pub by-need {κ} : (P : Answer R A → Type κ) (b : Bool) (n : R) (rest : Answer R A)
       → (T (not b) → P (refused n)) → (T b → P rest) → P (need b n rest)
@@ -99,6 +104,26 @@ module _ {A : Type 0} where
   every-at f (x ∷ xs) d t zero h = and-yes (f x) (every f xs) t .0
   every-at f (x ∷ xs) d t (suc k) h = every-at f xs d (and-yes (f x) (every f xs) t .1) k (le-of-suc-le-suc h)
 
+  -- and back: a rule that holds at each row holds of the table
+  pub at-every : (f : A → Bool) (xs : List A) (d : A) → ((k : ℕ) → k < length xs → T (f (getD xs k d))) → T (every f xs)
+  at-every f [] d p = tt
+  at-every f (x ∷ xs) d p =
+      yes-and (f x) (every f xs) (p 0 (omega arith)) (at-every f xs d (λ k h. p (suc k) (omega arith)))
+
+  -- elements that pass a test pass a weaker one
+  pub every-weaker : (f g : A → Bool) → ((x : A) → T (f x) → T (g x)) → (xs : List A) → T (every f xs) → T (every g xs)
+  every-weaker f g w [] t = tt
+  every-weaker f g w (x ∷ xs) t =
+      let h = and-yes (f x) (every f xs) t in
+      yes-and (g x) (every g xs) (w x (h .0)) (every-weaker f g w xs (h .1))
+
+  -- two lists that pass pass when joined
+  pub every-joined : (f : A → Bool) (xs ys : List A) → T (every f xs) → T (every f ys) → T (every f (xs ++ ys))
+  every-joined f [] ys t u = u
+  every-joined f (x ∷ xs) ys t u =
+      let h = and-yes (f x) (every f xs) t in
+      yes-and (f x) (every f (xs ++ ys)) (h .0) (every-joined f xs ys (h .1) u)
+
 -- ---- A test that every number below a bound passes
 
 abbrev pub below : (ℕ → Bool) → ℕ → Bool
@@ -124,3 +149,57 @@ is-false {b = false} t = refl
 
 pub from-true : {b : Bool} → b ≡ true → T b
 from-true {b} e = subst T (sym e) tt
+
+-- ---- One of two, by a test
+
+module _ {ℓ} {X : Type ℓ} where
+  unfoldable pub pick : Bool → X → X → X
+  pick true x y = x
+  pick false x y = y
+
+  pub pick-yes : (b : Bool) (x y : X) → T b → pick b x y ≡ x
+  unfolding pick
+  pick-yes true x y t = refl
+  pick-yes false x y t = absurd t
+
+  pub pick-no : (b : Bool) (x y : X) → T (not b) → pick b x y ≡ y
+  unfolding pick
+  pick-no true x y t = absurd t
+  pick-no false x y t = refl
+
+  -- to show something of a pick, show it of both
+  pub by-pick {κ} : (P : X → Type κ) (b : Bool) (x y : X) → (T b → P x) → (T (not b) → P y) → P (pick b x y)
+  unfolding pick
+  by-pick P true x y f g = f tt
+  by-pick P false x y f g = g tt
+
+-- ---- Conditions in a row, as document 01's table of numbers has them
+
+module _ {R A : Type 0} where
+  -- the refusal of the first condition that holds, or the value where none does
+  unfoldable pub firstRefusal : List (R × Bool) → A → Answer R A
+  firstRefusal [] a = given a
+  firstRefusal ((n, holds) ∷ more) a = need (not holds) n (firstRefusal more a)
+
+-- n is the refusal of the first condition that holds
+pub data IsFirst {R : Type 0} (n : R) : List (R × Bool) → Type 0 where
+  here : {more : List (R × Bool)} → IsFirst n ((n, true) ∷ more)
+  later : {k : R} {more : List (R × Bool)} → IsFirst n more → IsFirst n ((k, false) ∷ more)
+
+-- ---- A refusal is that of the first condition that holds
+
+module _ {R A : Type 0} where
+  first-is : (cs : List (R × Bool)) (a : A) (n : R) → firstRefusal cs a ≡ refused n → IsFirst n cs
+  unfolding firstRefusal need
+  first-is [] a n e = not-given (sym e)
+  first-is ((k, true) ∷ more) a n e = let q : k ≡ n = cc in subst (λ (j : R). IsFirst j ((k, true) ∷ more)) q here
+  first-is ((k, false) ∷ more) a n e = later (first-is more a n e)
+
+  is-first : (cs : List (R × Bool)) (a : A) (n : R) → IsFirst n cs → firstRefusal cs a ≡ refused n
+  unfolding firstRefusal need
+  is-first cs a n here = refl
+  is-first cs a n (later {more = more} h) = is-first more a n h
+
+  -- the row refuses with n exactly when n is the refusal of the first condition that holds
+  pub first-refused : (cs : List (R × Bool)) (a : A) (n : R) → (firstRefusal cs a ≡ refused n) ↔ IsFirst n cs
+  first-refused cs a n = (first-is cs a n, is-first cs a n)

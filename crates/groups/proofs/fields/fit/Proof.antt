@@ -1,0 +1,39 @@
+-- Each answer by the tests that led to it.
+use Rattle.characters.specs.Answers.{need}
+use Rattle.groups.proofs.Walks.{all-right, some-wrong}
+use Rattle.groups.specs.Fields.{checked, kindRight, widthRight}
+use Rattle.groups.specs.Kinds.{ofKind}
+use borrow.Author.Needs.{needs}
+use borrow.Author.Tests.{eq-eqb, ne-eqb}
+use mathlib.Core.Path.{_∙_, sym}
+use Rattle.groups.proofs.fields.fit.Statement.{statement}
+use Rattle.groups.proofs.fields.fit.Tie as tie
+
+stamp-right-requires : tie.Need-stamp-right-requires
+stamp-right-requires c κs = search needs
+
+wrong-at-requires : tie.Need-wrong-at-requires
+wrong-at-requires c κs = search needs
+
+returns : tie.Need-returns
+unfolding checked need widthRight kindRight
+returns c =
+    rw (sym (c .before .before .before .before .stamp-right .ensures) ∙ c .before .before .before .if1 .taken, eq-eqb _ _ (c .before .before .if2 .taken), all-right (ofKind (c .before .before .before .before .before .before .before .args .rule .kind)) (c .before .before .before .before .before .before .before .args .«data» .now) (sym (c .before .wrong-at .ensures) ∙ c .if3 .taken))
+
+returns-2 : tie.Need-returns-2
+unfolding checked need widthRight kindRight
+returns-2 c =
+    rw (sym (c .before .before .before .before .stamp-right .ensures) ∙ c .before .before .before .if1 .taken, eq-eqb _ _ (c .before .before .if2 .taken), some-wrong (ofKind (c .before .before .before .before .before .before .before .args .rule .kind)) (c .before .before .before .before .before .before .before .args .«data» .now) (λ z. c .if3 .left (c .before .wrong-at .ensures ∙ z)))
+
+returns-3 : tie.Need-returns-3
+unfolding checked need widthRight kindRight
+returns-3 c = rw (sym (c .before .before .stamp-right .ensures) ∙ c .before .if1 .taken, ne-eqb _ _ (c .if2 .left))
+
+returns-4 : tie.Need-returns-4
+unfolding checked need widthRight kindRight
+returns-4 c = rw (sym (c .before .stamp-right .ensures) ∙ c .if1 .left)
+
+pub fit-spec : {M : Type 1} → statement M
+fit-spec =
+    tie.close
+    (tie.spec stamp-right-requires wrong-at-requires returns returns-2 returns-3 returns-4)

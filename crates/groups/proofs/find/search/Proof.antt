@@ -1,0 +1,66 @@
+-- What is left of the rows decides.
+use Prim.Native.Nat.{_-_, _≤_}
+use Rattle.groups.proofs.Search.{row-fits, search-here, search-on, search-over}
+use Rattle.groups.specs.Inside.{entryOf, foundOf}
+use Rattle.groups.specs.Table.{lookup, rows}
+use borrow.Author.Needs.{needs}
+use lib.ListN.{drop, length, take}
+use mathlib.Core.List.{map}
+use mathlib.Core.Path.{_∙_, _≡_, ap, refl, sym}
+use native.Mathlib.Omega.{arith}
+use Rattle.groups.proofs.find.search.Statement.{statement}
+use Rattle.groups.proofs.find.search.Tie as tie
+
+abbrev Inv-loop : tie.InvT-loop
+Inv-loop label count rows i₀ i =
+    (i ≤ count) × (lookup label (map entryOf (take count rows)) ≡ lookup label (map entryOf (drop i (take count rows))))
+
+abbrev μ-loop : tie.MeasureT-loop
+μ-loop label count rows i₀ i = count - i
+
+loop-holds : tie.Need-loop-holds Inv-loop μ-loop
+loop-holds c = (search needs, refl)
+
+mul-row : tie.Need-mul-row Inv-loop μ-loop
+mul-row c = search needs
+
+array-copy-out-row : tie.Need-array-copy-out-row Inv-loop μ-loop
+array-copy-out-row c = search needs
+
+is-named-requires : tie.Need-is-named-requires Inv-loop μ-loop
+is-named-requires c κs =
+    let h : length (c .before .before .before .before .args .t2) ≡ 9 = search needs in row-fits (c .before .before .before .before .args .t2) (c .before .before .loop .i) _ (c .before .before .before .before .pre .1) (omega arith)
+
+returns : tie.Need-returns Inv-loop μ-loop
+returns c =
+    let l = c .before .before .before .before .loop in let h : length (c .before .before .before .before .before .before .args .t2) ≡ 9 = search needs in ap foundOf (sym (l .inv .1 ∙ search-here (c .before .before .before .before .before .before .args .label .now) (c .before .before .before .before .before .before .args .t2) (c .before .before .before .before .before .before .args .count) (l .i) _ (omega arith) (omega arith) (sym (c .before .is-named .ensures) ∙ c .if1 .taken)))
+
+add-i : tie.Need-add-i Inv-loop μ-loop
+add-i c = search needs
+
+loop-less : tie.Need-loop-less Inv-loop μ-loop
+loop-less c = search needs
+
+loop-again : tie.Need-loop-again Inv-loop μ-loop
+loop-again c =
+    let l = c .before .before .before .before .loop in let h : length (c .before .before .before .before .before .before .args .t2) ≡ 9 = search needs in (omega arith, l .inv .1 ∙ search-on (c .before .before .before .before .before .before .args .label .now) (c .before .before .before .before .before .before .args .t2) (c .before .before .before .before .before .before .args .count) (l .i) _ (omega arith) (omega arith) (sym (c .before .is-named .ensures) ∙ c .if1 .left))
+
+returns-2 : tie.Need-returns-2 Inv-loop μ-loop
+returns-2 c =
+    let l = c .before .loop in ap foundOf (sym (l .inv .1 ∙ search-over (c .before .before .before .args .label .now) (c .before .before .before .args .t2) (c .before .before .before .args .count) (l .i) (omega arith)))
+
+pub search-spec : {M : Type 1} → statement M
+search-spec =
+    tie.close
+    (tie.spec
+    Inv-loop
+    μ-loop
+    loop-holds
+    mul-row
+    array-copy-out-row
+    is-named-requires
+    returns
+    add-i
+    loop-less
+    loop-again
+    returns-2)

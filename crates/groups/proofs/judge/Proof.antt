@@ -1,0 +1,42 @@
+-- A known mode is read, an unknown one is 19.
+use Rattle.groups.proofs.Views.{chosen-none, chosen-some, in-mode, no-mode}
+use Rattle.groups.specs.Judging.{shown}
+use borrow.Author.Needs.{needs}
+use mathlib.Core.Path.{_∙_, ap, sym}
+use Rattle.groups.proofs.judge.Statement.{statement}
+use Rattle.groups.proofs.judge.Tie as tie
+
+mode-of-requires : tie.Need-mode-of-requires
+mode-of-requires c κs = search needs
+
+enum-known-chosen : tie.Need-enum-known-chosen
+enum-known-chosen c = search needs
+
+read-requires : tie.Need-read-requires
+read-requires c κs = search needs
+
+enum-told : tie.Need-enum-told
+enum-told c = search needs
+
+refuse-requires : tie.Need-refuse-requires
+refuse-requires c κs = search needs
+
+returns : tie.Need-returns
+returns c =
+    let g = c .before .before .before .before .before .before .args in c .read .ensures ∙ ap shown (sym (in-mode (g .mode) (g .content .now) _ (chosen-some _ _ (sym (c .before .before .before .before .mode-of .ensures) ∙ c .before .before .chosen .given .1))))
+
+returns-2 : tie.Need-returns-2
+returns-2 c =
+    let g = c .before .before .before .before .before .args in c .refuse .ensures ∙ ap shown (sym (no-mode (g .mode) (g .content .now) (chosen-none _ (sym (c .before .before .before .mode-of .ensures) ∙ c .before .enum-told .given .1))))
+
+pub judge-spec : {M : Type 1} → statement M
+judge-spec =
+    tie.close
+    (tie.spec
+    mode-of-requires
+    enum-known-chosen
+    read-requires
+    enum-told
+    refuse-requires
+    returns
+    returns-2)

@@ -1,0 +1,97 @@
+-- Each answer is the definition at the tests that led to it.
+use Rattle.groups.proofs.Views.{found-none, found-some}
+use Rattle.groups.specs.Judging.{shown}
+use Rattle.groups.specs.Laws.Places.{behind-checked, behind-listed, behind-open, behind-short, behind-unlisted}
+use borrow.Author.Needs.{needs}
+use lib.ListN.{length-take}
+use mathlib.Core.Path.{_∙_, ap, sym}
+use native.Mathlib.Omega.{arith}
+use Rattle.groups.proofs.reading.behind_label.Statement.{statement}
+use Rattle.groups.proofs.reading.behind_label.Tie as tie
+
+refuse-requires : tie.Need-refuse-requires
+refuse-requires c κs = search needs
+
+returns : tie.Need-returns
+returns c =
+    let g = c .before .before .before .before .args in c .refuse .ensures ∙ ap shown (sym (behind-short (g .mode) (g .label .now) (g .rest .now) (c .before .if1 .taken)))
+
+shared-slice-read-if2 : tie.Need-shared-slice-read-if2
+shared-slice-read-if2 c = search needs
+
+separator-of-requires : tie.Need-separator-of-requires
+separator-of-requires c κs = search needs
+
+refuse-requires-2 : tie.Need-refuse-requires-2
+refuse-requires-2 c κs = search needs
+
+returns-2 : tie.Need-returns-2
+returns-2 c =
+    let g = c .before .before .before .before .before .before .before .args in c .refuse2 .ensures ∙ ap shown (sym (behind-open (g .mode) (g .label .now) (g .rest .now) (c .before .before .before .before .if1 .left) (λ z. c .before .if2 .taken (z ∙ sym (c .before .before .separator-of .ensures)))))
+
+slice-aggregate-body : tie.Need-slice-aggregate-body
+slice-aggregate-body c = simp length-take (omega arith)
+
+sub-if3 : tie.Need-sub-if3
+sub-if3 c = search needs
+
+shared-slice-read-if3 : tie.Need-shared-slice-read-if3
+shared-slice-read-if3 c = search needs
+
+check-of-requires : tie.Need-check-of-requires
+check-of-requires c κs =
+    (c .before .before .before .before .before .before .before .before .pre .0, simp length-take (omega (arith, c .before .before .before .before .before .before .before .before .pre .1)))
+
+refuse-requires-3 : tie.Need-refuse-requires-3
+refuse-requires-3 c κs = search needs
+
+returns-3 : tie.Need-returns-3
+returns-3 c =
+    let g = c .before .before .before .before .before .before .before .before .before .before .before .args in c .refuse3 .ensures ∙ ap shown (sym (behind-checked (g .mode) (g .label .now) (g .rest .now) (c .before .before .before .before .before .before .before .before .if1 .left) (c .before .before .before .before .before .if2 .left ∙ c .before .before .before .before .before .before .separator-of .ensures) (λ z. c .before .if3 .taken (z ∙ sym (c .before .before .check-of .ensures)))))
+
+find-requires : tie.Need-find-requires
+find-requires c κs = search needs
+
+enum-known-found : tie.Need-enum-known-found
+enum-known-found c = search needs
+
+fields-of-requires : tie.Need-fields-of-requires
+fields-of-requires c κs = search needs
+
+enum-told : tie.Need-enum-told
+enum-told c = search needs
+
+refuse-requires-4 : tie.Need-refuse-requires-4
+refuse-requires-4 c κs = search needs
+
+returns-4 : tie.Need-returns-4
+returns-4 c =
+    let g = c .before .before .before .before .before .before .before .before .before .before .before .before .before .before .before .args in c .fields-of .ensures ∙ ap shown (sym (behind-listed (g .mode) (g .label .now) (g .rest .now) _ (c .before .before .before .before .before .before .before .before .before .before .before .before .if1 .left) (c .before .before .before .before .before .before .before .before .before .if2 .left ∙ c .before .before .before .before .before .before .before .before .before .before .separator-of .ensures) (c .before .before .before .before .before .if3 .left ∙ c .before .before .before .before .before .before .check-of .ensures) (found-some _ _ (sym (c .before .before .before .before .find .ensures) ∙ c .before .before .found .given .1))))
+
+returns-5 : tie.Need-returns-5
+returns-5 c =
+    let g = c .before .before .before .before .before .before .before .before .before .before .before .before .before .before .args in c .refuse4 .ensures ∙ ap shown (sym (behind-unlisted (g .mode) (g .label .now) (g .rest .now) (c .before .before .before .before .before .before .before .before .before .before .before .if1 .left) (c .before .before .before .before .before .before .before .before .if2 .left ∙ c .before .before .before .before .before .before .before .before .before .separator-of .ensures) (c .before .before .before .before .if3 .left ∙ c .before .before .before .before .before .check-of .ensures) (found-none _ (sym (c .before .before .before .find .ensures) ∙ c .before .enum-told .given .1))))
+
+pub behind-label-spec : {M : Type 1} → statement M
+behind-label-spec =
+    tie.close
+    (tie.spec
+    refuse-requires
+    returns
+    shared-slice-read-if2
+    separator-of-requires
+    refuse-requires-2
+    returns-2
+    slice-aggregate-body
+    sub-if3
+    shared-slice-read-if3
+    check-of-requires
+    refuse-requires-3
+    returns-3
+    find-requires
+    enum-known-found
+    fields-of-requires
+    enum-told
+    refuse-requires-4
+    returns-4
+    returns-5)

@@ -1,0 +1,82 @@
+-- Each answer is the definition at the tests that led to it.
+use Prim.Native.Nat.{_+_, ℕ}
+use Rattle.groups.proofs.Walks.{to-end}
+use Rattle.groups.specs.Conditions.{firstAt}
+use Rattle.groups.specs.Judging.{shown}
+use Rattle.groups.specs.Laws.Places.{read-cut, read-long, read-uncut, read-unlabelled}
+use borrow.Author.Needs.{needs}
+use lib.ListN.{length-drop, length-take}
+use mathlib.Core.Path.{_∙_, ap, sym}
+use native.Mathlib.Omega.{arith}
+use Rattle.groups.proofs.reading.read.Statement.{statement}
+use Rattle.groups.proofs.reading.read.Tie as tie
+
+refuse-requires : tie.Need-refuse-requires
+refuse-requires c κs = search needs
+
+returns : tie.Need-returns
+returns c =
+    let g = c .before .before .before .args in c .refuse .ensures ∙ ap shown (sym (read-long (g .mode) (g .content .now) (c .before .if1 .taken)))
+
+separator-of-requires : tie.Need-separator-of-requires
+separator-of-requires c κs = search needs
+
+first-requires : tie.Need-first-requires
+first-requires c κs = search needs
+
+refuse-requires-2 : tie.Need-refuse-requires-2
+refuse-requires-2 c κs = search needs
+
+returns-2 : tie.Need-returns-2
+returns-2 c =
+    let g = c .before .before .before .before .before .before .args in c .refuse2 .ensures ∙ ap shown (sym (read-uncut (g .mode) (g .content .now) _ (c .before .before .first .ensures ∙ ap (λ (s : ℕ). firstAt s (g .content .now)) (c .before .before .before .separator-of .ensures)) (c .before .before .before .before .if1 .left) (c .before .if2 .taken)))
+
+refuse-requires-3 : tie.Need-refuse-requires-3
+refuse-requires-3 c κs = search needs
+
+returns-3 : tie.Need-returns-3
+returns-3 c =
+    let g = c .before .before .before .before .before .before .before .args in c .refuse3 .ensures ∙ ap shown (sym (read-unlabelled (g .mode) (g .content .now) _ (c .before .before .before .first .ensures ∙ ap (λ (s : ℕ). firstAt s (g .content .now)) (c .before .before .before .before .separator-of .ensures)) (c .before .before .before .before .before .if1 .left) (c .before .before .if2 .left) (c .before .if3 .taken)))
+
+add-next : tie.Need-add-next
+add-next c = search needs
+
+slice-aggregate-behind-label : tie.Need-slice-aggregate-behind-label
+slice-aggregate-behind-label c = simp length-take (omega arith)
+
+sub-behind-label : tie.Need-sub-behind-label
+sub-behind-label c = search needs
+
+part-behind-label-start : tie.Need-part-behind-label-start
+part-behind-label-start c = search needs
+
+part-behind-label-end : tie.Need-part-behind-label-end
+part-behind-label-end c = search needs
+
+behind-label-requires : tie.Need-behind-label-requires
+behind-label-requires c κs =
+    (simp length-take (omega arith), rw (to-end (c .before .before .before .before .first .result + 1) (c .before .before .before .before .before .before .before .before .args .content .now)) (simp length-drop (omega arith)))
+
+returns-4 : tie.Need-returns-4
+returns-4 c =
+    let g = c .before .before .before .before .before .before .before .before .before .args in c .behind-label .ensures ∙ rw (to-end (c .before .before .before .before .before .first .result + 1) (g .content .now)) (ap shown (sym (read-cut (g .mode) (g .content .now) _ (c .before .before .before .before .before .first .ensures ∙ ap (λ (s : ℕ). firstAt s (g .content .now)) (c .before .before .before .before .before .before .separator-of .ensures)) (c .before .before .before .before .before .before .before .if1 .left) (c .before .before .before .before .if2 .left) (c .before .before .before .if3 .left))))
+
+pub read-spec : {M : Type 1} → statement M
+read-spec =
+    tie.close
+    (tie.spec
+    refuse-requires
+    returns
+    separator-of-requires
+    first-requires
+    refuse-requires-2
+    returns-2
+    refuse-requires-3
+    returns-3
+    add-next
+    slice-aggregate-behind-label
+    sub-behind-label
+    part-behind-label-start
+    part-behind-label-end
+    behind-label-requires
+    returns-4)

@@ -1,0 +1,57 @@
+-- Document 01's figures P1 to P12 ("Figures to hold it against"): one table, one statement.
+use mathlib.Core.Path.{_≡_, refl}
+use mathlib.Core.Bool.{Bool, true, false}
+use mathlib.Core.List.{List, [], _∷_}
+use Prim.Native.Nat.{ℕ}
+use Prim.Native.String.{String}
+use Rattle.characters.specs.Answers.{need, found, pick}
+use Rattle.characters.specs.Wire.{isSound}
+use Rattle.characters.specs.WireLaws.{damaged-stx}
+use Rattle.groups.specs.Modes.{modeOf}
+use Rattle.groups.specs.Table.{codes, historicRows, standardRows, lookup}
+use Rattle.groups.specs.Stamps.{daysIn, dateRight, stampAs, stampRight}
+use Rattle.groups.specs.Fields.{widthRight, kindRight, checked}
+use Rattle.groups.specs.Cuts.{cut, ending}
+use Rattle.groups.specs.Groups.{check, parts, fieldsOf, behindLabel, read}
+use Rattle.groups.specs.Numbers.{numberOf}
+use Rattle.groups.specs.Judging.{judging, shown}
+use Rattle.groups.specs.declared.table.Mark.the-variants.{Letter}
+
+-- a mode's number, a content and its answer; a stamp, right or not; a wire byte, sound or not
+pub data Figure : Type 0 where
+  group : ℕ → String → ℕ → Figure
+  stamp : String → Bool → Figure
+  wireByte : ℕ → Bool → Figure
+
+-- P1 to P12, in order; P9 names no mode, so it stands for both
+abbrev pub figures : List Figure
+figures =
+    group 1 "URMS1\t230\t?" 1 ∷
+    group 1 "URMS1\t230\t6" 10 ∷
+    group 0 "PAPP 00750 -" 1 ∷
+    group 0 "PAPP 00750 M" 10 ∷
+    group 0 "IINST 009  " 1 ∷
+    group 0 "IINST 002 Y" 1 ∷
+    group 1 "SMAXSN\tH081225223518\t01200\t7" 1 ∷
+    group 1 "DATE\tH081225223518\t\tH" 1 ∷
+    group 0 "" 9 ∷
+    group 1 "" 9 ∷
+    stamp "H080229000000" true ∷
+    stamp "H090229000000" false ∷
+    wireByte 0x02 false ∷
+    []
+
+-- what the definitions say of a figure is what document 01 says
+abbrev pub Holds : Figure → Type 0
+Holds (group number text answer) = numberOf (shown (judging number (codes text)) .verdict) ≡ answer
+Holds (stamp text right) = stampRight Letter (codes text) ≡ right
+Holds (wireByte byte sound) = isSound byte ≡ sound
+
+abbrev pub AllHold : List Figure → Type 0
+AllHold [] = Unit {0}
+AllHold (f ∷ more) = Holds f × AllHold more
+
+pub figures-hold : AllHold figures
+unfolding judging modeOf read behindLabel fieldsOf checked widthRight kindRight lookup check parts stampAs dateRight daysIn need found pick cut ending historicRows standardRows
+figures-hold =
+    (refl, (refl, (refl, (refl, (refl, (refl, (refl, (refl, (refl, (refl, (refl, (refl, (damaged-stx, tt)))))))))))))

@@ -1,0 +1,118 @@
+-- What only the contracts of private functions cite: views of the definitions in the code's own types, and how the code
+-- goes about its work. No promise rests on a reader's belief in these.
+use mathlib.Core.Path.{_≡_}
+use mathlib.Core.Bool.{Bool}
+use mathlib.Core.Option.{Option, none, some}
+use mathlib.Core.List.{List, [], _∷_, _++_}
+use Prim.Native.Nat.{ℕ, zero, suc, _+_, _-_, _%_, _≤_}
+use lib.Dec.{T as So, leb}
+use lib.ListN.{length, take, drop, getD}
+use lib.Seq.{sets}
+use Rattle.characters.specs.Answers.{Answer, refused, given, pick}
+use Rattle.groups.specs.Modes.{separator, countedAtEnd}
+use Rattle.groups.specs.Table.{Entry, historicRows, standardRows}
+use Rattle.groups.specs.Stamps.{isStamped, stampRight}
+use Rattle.groups.specs.Fields.{longest, widthRight, kindRight, checked}
+use Rattle.groups.specs.Groups.{Group, content, body, total}
+use Rattle.groups.specs.Writing.{into}
+use Rattle.groups.specs.declared.Mode.{Mode}
+use Rattle.groups.specs.declared.Refusal.{Refusal}
+use Rattle.groups.specs.declared.Verdict.{Verdict}
+use Rattle.groups.specs.declared.Verdict.the-variants.{Accepted, Refused}
+use Rattle.groups.specs.declared.modes.Chosen.{Chosen}
+use Rattle.groups.specs.declared.modes.Chosen.the-variants.{Known, Unknown}
+use Rattle.groups.specs.declared.find.Found.{Found}
+use Rattle.groups.specs.declared.find.Found.the-variants.{Listed, Unlisted}
+use Rattle.groups.specs.declared.table.Row.{Row}
+use Rattle.groups.specs.declared.table.Rule.{Rule}
+
+-- ---- Views
+
+abbrev pub chosenOf : Option Mode → Chosen
+chosenOf none = Unknown
+chosenOf (some m) = Known m
+
+abbrev pub foundOf : Option Rule → Found
+foundOf none = Unlisted
+foundOf (some rule) = Listed rule
+
+abbrev pub verdictOf : {A : Type 0} → Answer Refusal A → Verdict
+verdictOf (refused refusal) = Refused refusal
+verdictOf (given a) = Accepted
+
+-- what a rule says of stamp and data
+abbrev pub fitness : Rule → List ℕ → List ℕ → Verdict
+fitness rule stamp d = verdictOf (checked rule stamp d d)
+
+-- ---- The table in arrays of nine rows
+
+-- a row's label and rule
+abbrev pub entryOf : Row → Entry
+entryOf r = record { label = take (r .1) (r .0); rule = record { width = r .2; kind = r .3; mark = r .4 } }
+
+abbrev pub labelFits : Row → Bool
+labelFits r = leb (r .1) 9
+
+-- the lists in pieces of nine rows, the last piece of each list shorter
+unfoldable pub pieces : List (List Entry)
+pieces =
+    take 9 historicRows
+    ∷ take 9 (drop 9 historicRows)
+    ∷ take 9 (drop 18 historicRows)
+    ∷ drop 27 historicRows
+    ∷ take 9 standardRows
+    ∷ take 9 (drop 9 standardRows)
+    ∷ take 9 (drop 18 standardRows)
+    ∷ take 9 (drop 27 standardRows)
+    ∷ take 9 (drop 36 standardRows)
+    ∷ take 9 (drop 45 standardRows)
+    ∷ take 9 (drop 54 standardRows)
+    ∷ drop 63 standardRows
+    ∷ []
+
+abbrev pub piece : ℕ → List Entry
+piece i = getD pieces i []
+
+abbrev pub joined : List (List Entry) → List Entry
+joined [] = []
+joined (p ∷ ps) = p ++ joined ps
+
+-- the pieces from one number up to another
+abbrev pub between : ℕ → ℕ → List Entry
+between i e = joined (take (e - i) (drop i pieces))
+
+-- ---- Walks
+
+-- the place of the first element that fails a test; the length where none does
+unfoldable pub wrongAt : (ℕ → Bool) → List ℕ → ℕ
+wrongAt f [] = 0
+wrongAt f (x ∷ xs) = pick (f x) (suc (wrongAt f xs)) 0
+
+-- the check character from the sum of the body
+unfoldable pub checkFrom : Mode → List ℕ → ℕ → ℕ
+checkFrom m label rest = (total label + separator m + rest + countedAtEnd m) % 64 + 32
+
+-- ---- Writing
+
+-- the bytes w laid from place `at` on, up to place n, turn the buffer b₀ into b
+pub record Laid (b₀ : List ℕ) (at : ℕ) (w : List ℕ) (n : ℕ) (b : List ℕ) : Type 0 where
+  pub upto : n ≡ at + length w
+  pub bytes : b ≡ sets b₀ at w
+
+abbrev pub stampRoom : Bool → ℕ
+stampRoom b = pick b 14 0
+
+-- the content of any group of this label and rule has at most 128 characters
+abbrev pub ShortRow : Rule → List ℕ → Type 0
+ShortRow rule label = length label + 1 + stampRoom (isStamped (rule .mark)) + longest rule + 2 ≤ 128
+
+-- stamp and data are what the rule asks for
+pub record RightFields (rule : Rule) (stamp d : List ℕ) : Type 0 where
+  pub stamp-right : So (stampRight (rule .mark) stamp)
+  pub width-right : So (widthRight rule (length d))
+  pub kind-right : So (kindRight rule d)
+
+-- the bytes to write, by the label's rule
+unfoldable pub writeBy : Mode → Rule → Group → ℕ → Answer Refusal (List ℕ)
+writeBy m rule g room =
+    into room (checked rule (g .stamp) (g .«data») (content m (g .label) (body m (isStamped (rule .mark)) (g .stamp) (g .«data»))))

@@ -1,0 +1,52 @@
+-- "Judging one group given alone": what the caller is shown.
+use mathlib.Core.Path.{_≡_}
+use mathlib.Core.List.{List, []}
+use Prim.Native.Nat.{ℕ, _+_}
+use lib.Dec.{eqb, leb}
+use lib.ListN.{length, take, drop}
+use Rattle.characters.specs.Answers.{Answer, refused, given, found, pick}
+use Rattle.groups.specs.Modes.{modeOf}
+use Rattle.groups.specs.Groups.{Group, read}
+use Rattle.groups.specs.declared.Refusal.{Refusal}
+use Rattle.groups.specs.declared.Refusal.the-variants.{ModeUnknown}
+use Rattle.groups.specs.declared.Verdict.{Verdict}
+use Rattle.groups.specs.declared.Verdict.the-variants.{Accepted, Refused}
+use Rattle.groups.specs.declared.Stretch.{Stretch}
+use Rattle.groups.specs.declared.Judged.{Judged}
+
+-- a content in the mode of a number: 19 first, "mode not 0 or 1"
+unfoldable pub judging : ℕ → List ℕ → Answer Refusal Group
+judging number c = found (modeOf number) ModeUnknown λ m. read m c
+
+abbrev pub nowhere : Stretch
+nowhere = record { start = 0; length = 0 }
+
+-- "13 characters of stamp" and the separator behind them, where there is a stamp of so many characters
+unfoldable pub stampSpan : ℕ → ℕ
+stampSpan n = pick (eqb n 0) 0 14
+
+-- the stamp stands behind the label's separator; "An absent stamp is an empty stretch", at 0
+unfoldable pub stampStretch : ℕ → ℕ → Stretch
+stampStretch next n = pick (eqb n 0) nowhere (record { start = next; length = n })
+
+-- "is shown label, stamp and data as stretches of its own bytes": where they stand follows from their lengths.
+-- "Refused judging shows three empty stretches."
+abbrev pub shown : Answer Refusal Group → Judged
+shown (refused refusal) = record { verdict = Refused refusal; label = nowhere; stamp = nowhere; «data» = nowhere }
+shown (given g) =
+    record {
+      verdict = Accepted;
+      label = record { start = 0; length = length (g .label) };
+      stamp = stampStretch (length (g .label) + 1) (length (g .stamp));
+      «data» = record { start = length (g .label) + 1 + stampSpan (length (g .stamp)); length = length (g .«data») };
+    }
+
+-- the bytes of a stretch; none where it does not fit
+unfoldable pub partOf : Stretch → List ℕ → List ℕ
+partOf s c = pick (leb (s .start + s .length) (length c)) (take (s .length) (drop (s .start) c)) []
+
+-- the bytes of the stretches that are shown of a content are the fields of a group
+pub record Shows (c : List ℕ) (j : Judged) (g : Group) : Type 0 where
+  pub label-shown : partOf (j .label) c ≡ g .label
+  pub stamp-shown : partOf (j .stamp) c ≡ g .stamp
+  pub data-shown : partOf (j .«data») c ≡ g .«data»

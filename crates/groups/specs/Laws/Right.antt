@@ -1,0 +1,116 @@
+-- Reading says that a content is that of a right group, in document 01's own terms.
+use mathlib.Core.Path.{_≡_, refl, sym, _∙_, subst}
+use mathlib.Core.Logic.{_↔_, ⊎-elim}
+use mathlib.Core.Bool.{Bool, true, false, not}
+use mathlib.Core.Option.{Option, some}
+use mathlib.Core.List.{List, [], _∷_, _++_, append-assoc}
+use mathlib.Core.List.{List·Memᴰ, List·Memᴰ·head, List·Memᴰ·tail, List·Memᴰ·not-nil, List·Memᴰ·cases-cons}
+use Prim.Native.Nat.{ℕ, _+_, _%_}
+use lib.Dec.{T, eqb→eq, T-not, not-T}
+use mir.Facts.{and-yes, yes-eqb}
+use Rattle.characters.specs.Answers.{given, every, every-at, at-every, pick, pick-yes, pick-no, by-pick}
+use Rattle.groups.specs.Modes.{separator, countedAtEnd}
+use Rattle.groups.specs.Kinds.{ofKind}
+use Rattle.groups.specs.Table.{Entry, rows, same, lookup}
+use Rattle.groups.specs.Stamps.{isStamped}
+use Rattle.groups.specs.Fields.{widthRight, kindRight}
+use Rattle.groups.specs.Groups.{Group, total, check, content, body, read}
+use Rattle.groups.specs.Right.{parted, RightGroup}
+use Rattle.groups.specs.Laws.Tests.{not-some, same→eq, same-refl}
+use Rattle.groups.specs.Laws.Table.{distinct, labels-distinct}
+use Rattle.groups.specs.Laws.Groups.{IsGroup, read-given, read-right}
+use Rattle.groups.specs.declared.Mode.{Mode}
+use Rattle.groups.specs.declared.table.Rule.{Rule}
+
+-- ---- A label that is looked up stands in the list
+
+-- what every row passes, a row in the list passes
+every-row : (f : Entry → Bool) (es : List Entry) (e : Entry) → T (every f es) → List·Memᴰ e es → T (f e)
+every-row f [] e t h = absurd (List·Memᴰ·not-nil h)
+every-row f (x ∷ es) e t h =
+    let p = and-yes (f x) (every f es) t in
+    ⊎-elim (λ q. subst (λ (y : Entry). T (f y)) (sym q) (p .0)) (λ k. every-row f es e (p .1) k)
+    (List·Memᴰ·cases-cons h)
+
+-- a label stands in a list with this rule
+abbrev In : List ℕ → Rule → List Entry → Type 0
+In l r es = List·Memᴰ (record { label = l; rule = r }) es
+
+-- a label that is found stands in the list, with its rule
+lookup-listed : (l : List ℕ) (es : List Entry) (r : Rule) → lookup l es ≡ some r → In l r es
+unfolding lookup
+lookup-listed l [] r e = not-some e
+lookup-listed l (x ∷ es) r e =
+    by-pick (λ (o : Option Rule). o ≡ some r → In l r (x ∷ es)) (same l (x .label)) _ _
+    (λ t e. List·Memᴰ·head (here (same→eq l (x .label) t) e)) (λ t e. List·Memᴰ·tail (lookup-listed l es r e)) e
+  where
+    here : l ≡ x .label → some (x .rule) ≡ some r → record { label = l; rule = r } ≡ x
+    here p e =
+        let q : x .rule ≡ r = cc in
+        rw (p, ← q)
+
+-- in a list where no label stands twice, a label that stands there is found, with its rule
+listed-lookup : (l : List ℕ) (es : List Entry) (r : Rule) → T (distinct es) → In l r es → lookup l es ≡ some r
+unfolding lookup
+listed-lookup l [] r t h = absurd (List·Memᴰ·not-nil h)
+listed-lookup l (x ∷ es) r t h = ⊎-elim here (λ k. there k (listed-lookup l es r (p .1) k)) (List·Memᴰ·cases-cons h)
+  where
+    p : T (every (λ f. not (same (x .label) (f .label))) es) × T (distinct es)
+    p = and-yes (every (λ f. not (same (x .label) (f .label))) es) (distinct es) t
+
+    here : record { label = l; rule = r } ≡ x → pick (same l (x .label)) (some (x .rule)) (lookup l es) ≡ some r
+    here q =
+        subst (λ (y : Entry). pick (same l (y .label)) (some (y .rule)) (lookup l es) ≡ some r) q
+        (pick-yes (same l l) _ _ (same-refl l))
+
+    differ : In l r es → T (same l (x .label)) → ⊥
+    differ k s =
+        T-not (same (x .label) l) (every-row (λ f. not (same (x .label) (f .label))) es _ (p .0) k)
+        (subst (λ (y : List ℕ). T (same y l)) (same→eq l (x .label) s) (same-refl l))
+
+    there : In l r es → lookup l es ≡ some r → pick (same l (x .label)) (some (x .rule)) (lookup l es) ≡ some r
+    there k e = pick-no (same l (x .label)) _ _ (not-T (same l (x .label)) (differ k)) ∙ e
+
+-- ---- Right fields and a right group
+
+-- a content is the fields with their separators, the final separator and the check character
+whole : (m : Mode) (b : Bool) (g : Group) (k : ℕ) → k ≡ (total (parted m b g) + countedAtEnd m) % 64 + 32
+    → content m (g .label) (body m b (g .stamp) (g .«data»)) ≡ parted m b g ++ separator m ∷ k ∷ []
+unfolding content body check
+whole m false g k e = simp (e, append-assoc)
+whole m true g k e = simp (e, append-assoc)
+
+-- a content of right fields is that of a right group
+group-right : (m : Mode) (c : List ℕ) (g : Group) → IsGroup m c g → RightGroup m c g
+unfolding widthRight kindRight
+group-right m c g i =
+    let b = isStamped (i .rule .mark) in
+    record {
+      rule = i .rule;
+      checkCharacter = (total (parted m b g) + countedAtEnd m) % 64 + 32;
+      listed = lookup-listed (g .label) (rows m) (i .rule) (i .listed);
+      separated = sym (i .whole) ∙ whole m b g _ refl;
+      check-right = refl;
+      stamp-right = i .fields .stamp-right;
+      width-right = eqb→eq _ _ (i .fields .width-right);
+      kind-right = every-at (ofKind (i .rule .kind)) (g .«data») 0 (i .fields .kind-right);
+    }
+
+-- and back
+right-group : (m : Mode) (c : List ℕ) (g : Group) → RightGroup m c g → IsGroup m c g
+unfolding widthRight kindRight
+right-group m c g r =
+    record {
+      rule = r .rule;
+      listed = listed-lookup (g .label) (rows m) (r .rule) (labels-distinct m) (r .listed);
+      fields = record {
+        stamp-right = r .stamp-right;
+        width-right = yes-eqb (r .width-right);
+        kind-right = at-every (ofKind (r .rule .kind)) (g .«data») 0 (r .kind-right);
+      };
+      whole = whole m (isStamped (r .rule .mark)) g (r .checkCharacter) (r .check-right) ∙ sym (r .separated);
+    }
+
+-- reading gives these fields exactly when the content is that of a right group with them
+pub right-exactly : (m : Mode) (c : List ℕ) (g : Group) → (read m c ≡ given g) ↔ RightGroup m c g
+right-exactly m c g = (λ e. group-right m c g (read-given m c g e), λ r. read-right m c g (right-group m c g r))

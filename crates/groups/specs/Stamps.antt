@@ -1,0 +1,52 @@
+-- "Stamp: a season letter, then YYMMDDhhmmss" (document 01, "One group").
+use mathlib.Core.Bool.{Bool, true, false, _&&_, _||_}
+use mathlib.Core.List.{List}
+use Prim.Native.Nat.{ℕ, _+_, _-_, _*_, _%_}
+use lib.Dec.{eqb}
+use lib.ListN.{length, drop, getD}
+use Rattle.characters.specs.Answers.{every, pick}
+use Rattle.characters.specs.Wire.{SP}
+use Rattle.groups.specs.Kinds.{within, ofKind}
+use Rattle.groups.specs.declared.table.Kind.the-variants.{Digits}
+use Rattle.groups.specs.declared.table.Mark.{Mark}
+use Rattle.groups.specs.declared.table.Mark.the-variants.{Unstamped, Letter, Space}
+
+-- the number that the digits at two places write
+abbrev pub twoDigits : List ℕ → ℕ → ℕ
+twoDigits s i = (getD s i 0 - 0x30) * 10 + (getD s (i + 1) 0 - 0x30)
+
+-- "day within that month, February having 29 days when YY divides by 4"
+unfoldable pub daysIn : ℕ → ℕ → ℕ
+daysIn year month =
+    pick (eqb month 2) (pick (eqb (year % 4) 0) 29 28)
+    (pick (eqb month 4 || eqb month 6 || eqb month 9 || eqb month 11) 30 31)
+
+-- "Month 01 to 12; day within that month ..; hour 00 to 23; minute and second 00 to 59"; all twelve are digits
+unfoldable pub dateRight : List ℕ → Bool
+dateRight s =
+    every (ofKind Digits) (drop 1 s)
+    && within 1 12 (twoDigits s 3)
+    && within 1 (daysIn (twoDigits s 1) (twoDigits s 3)) (twoDigits s 5)
+    && within 0 23 (twoDigits s 7)
+    && within 0 59 (twoDigits s 9)
+    && within 0 59 (twoDigits s 11)
+
+-- "The season is H or E; for DPM1 to DPM3 and FPM1 to FPM3 it is SP and nothing else" (H is 0x48, E is 0x45)
+abbrev pub seasonRight : Mark → ℕ → Bool
+seasonRight Unstamped c = false
+seasonRight Letter c = eqb c 0x48 || eqb c 0x45
+seasonRight Space c = eqb c SP
+
+-- "Marked * is stamped"
+abbrev pub isStamped : Mark → Bool
+isStamped Unstamped = false
+isStamped Letter = true
+isStamped Space = true
+
+-- the stamp of a label that is not stamped is empty; that of a stamped one has "13 characters", season and date
+unfoldable pub stampAs : Bool → Mark → List ℕ → Bool
+stampAs false mark s = eqb (length s) 0
+stampAs true mark s = eqb (length s) 13 && (seasonRight mark (getD s 0 0) && dateRight s)
+
+abbrev pub stampRight : Mark → List ℕ → Bool
+stampRight mark s = stampAs (isStamped mark) mark s
