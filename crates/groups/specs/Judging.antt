@@ -1,7 +1,7 @@
 -- "Judging one group given alone": what the caller is shown.
 use mathlib.Core.Path.{_≡_}
 use mathlib.Core.List.{List, []}
-use Prim.Native.Nat.{ℕ, _+_}
+use Prim.Native.Nat.{ℕ, _+_, _≤_}
 use lib.Dec.{eqb, leb}
 use lib.ListN.{length, take, drop}
 use Rattle.characters.specs.Answers.{Answer, refused, given, found, pick}
@@ -50,3 +50,10 @@ pub record Shows (c : List ℕ) (j : Judged) (g : Group) : Type 0 where
   pub label-shown : partOf (j .label) c ≡ g .label
   pub stamp-shown : partOf (j .stamp) c ≡ g .stamp
   pub data-shown : partOf (j .«data») c ≡ g .«data»
+
+-- the stretches lie inside the first n bytes, and together have no more bytes than n
+pub record Inside (n : ℕ) (j : Judged) : Type 0 where
+  pub label-inside : j .label .start + j .label .length ≤ n
+  pub stamp-inside : j .stamp .start + j .stamp .length ≤ n
+  pub data-inside : j .«data» .start + j .«data» .length ≤ n
+  pub all-short : j .label .length + j .stamp .length + j .«data» .length ≤ n

@@ -1,12 +1,14 @@
 -- The laws of reading and writing in a mode, for the number of a mode.
 use mathlib.Core.Path.{_≡_, refl, sym, ap, subst}
 use mathlib.Core.Logic.{_↔_}
+use mathlib.Core.Bool.{Bool, true, false, false≢true}
 use mathlib.Core.Option.{Option, none, some}
-use mathlib.Core.List.{List, []}
+use mathlib.Core.List.{List, [], _∷_}
 use Prim.Native.Nat.{ℕ, _+_, _≤_}
 use native.Mathlib.Omega.{arith}
-use lib.Dec.{T, le→leb}
+use lib.Dec.{T, le→leb, leb→le}
 use lib.ListN.{length, length-append, length-map}
+use mir.Facts.{and-yes}
 use Rattle.characters.specs.Answers.{
   Answer,
   refused,
@@ -25,19 +27,21 @@ use Rattle.characters.specs.Answers.{
   first-refused,
 }
 use Rattle.characters.specs.Wire.{isSound}
-use Rattle.groups.specs.Modes.{modeOf}
+use Rattle.groups.specs.Modes.{modeOf, isKnown, isMode}
+use Rattle.groups.specs.Kinds.{within}
 use Rattle.groups.specs.Groups.{Group, groupOf, read, compose}
-use Rattle.groups.specs.Judging.{judging}
+use Rattle.groups.specs.Numbers.{numberOfRefusal, numberOf}
+use Rattle.groups.specs.Judging.{judging, shown}
 use Rattle.groups.specs.Writing.{onTheWire, offTheWire, composing, into, writing}
-use Rattle.groups.specs.Conditions.{conditionsIn, givenWhen, fieldsAt}
+use Rattle.groups.specs.Conditions.{conditions, conditionsIn, givenWhen, fieldsAt}
 use Rattle.groups.specs.Right.{RightGroup}
 use Rattle.groups.specs.Laws.Groups.{read-exactly-written}
 use Rattle.groups.specs.Laws.Right.{right-exactly}
 use Rattle.groups.specs.Laws.Conditions.{read-by-conditions}
-use Rattle.groups.specs.Laws.OnTheWire.{written-small, off-on, on-sound}
+use Rattle.groups.specs.Laws.OnTheWire.{arePlain, written-plain, written-small, off-on, on-sound}
 use Rattle.groups.specs.declared.Mode.{Mode}
 use Rattle.groups.specs.declared.Refusal.{Refusal}
-use Rattle.groups.specs.declared.Refusal.the-variants.{NoRoom, ModeUnknown}
+use Rattle.groups.specs.declared.Refusal.the-variants.{TooLong, NoRoom, ModeUnknown}
 
 -- ---- Judging and composing
 
@@ -66,6 +70,15 @@ module _ (number : ℕ) (c : List ℕ) (g : Group) where
     λ (m, k, h). judged-in .1 (m, k, right-exactly m c g .1 h),
   )
 
+  -- what is accepted has at most 128 characters
+  pub judged-short : judging number c ≡ given g → length c ≤ 128
+  unfolding read
+  judged-short e = let (m, k, h) = judged-in .0 e in leb→le (length c) 128 (need-given _ TooLong _ h .0)
+
+  -- and each of them is HT or one of 0x20 to 0x7E
+  pub judged-plain : judging number c ≡ given g → T (arePlain c)
+  judged-plain e = let (m, k, h) = judged-in .0 e in written-plain m g c (read-exactly-written m c g .0 h)
+
 -- ---- Judging and the conditions
 
 -- the fields by places; with no mode there are none
@@ -87,6 +100,39 @@ unfolding judging givenWhen
 judged-first number c n =
     let o = modeOf number in
     rw (by-conditions o c) (first-refused (conditionsIn o c) (fieldsIn o c) n)
+
+-- ---- The numbers of what judging tells
+
+-- a refusal with a number of 1 to 14, and an answer with one
+abbrev isJudged : Refusal × Bool → Bool
+isJudged r = within 1 14 (numberOfRefusal (r .0))
+
+abbrev isTold : Answer Refusal Group → Bool
+isTold a = within 1 14 (numberOf (shown a .verdict))
+
+-- conditions of such refusals make such an answer
+first-told : (cs : List (Refusal × Bool)) (g : Group) → T (every isJudged cs) → T (isTold (firstRefusal cs g))
+unfolding firstRefusal need
+first-told [] g t = tt
+first-told ((n, true) ∷ more) g t = and-yes (isJudged (n, true)) (every isJudged more) t .0
+first-told ((n, false) ∷ more) g t = first-told more g (and-yes (isJudged (n, false)) (every isJudged more) t .1)
+
+-- so reading does
+read-told : (m : Mode) (c : List ℕ) → T (isTold (read m c))
+unfolding conditions
+read-told m c = rw (read-by-conditions m c) (first-told (conditions m c) (fieldsAt m c) tt)
+
+-- and so judging does, where there is a mode
+told-in : (o : Option Mode) (c : List ℕ) → isKnown o ≡ true → T (isTold (found o ModeUnknown (λ m. read m c)))
+unfolding found
+told-in none c e = absurd (false≢true e)
+told-in (some m) c e = read-told m c
+
+-- judging in a known mode tells 1, or 8 to 14: "mode not 0 or 1" and "lent buffer too short" are not its answers
+pub judged-number : (number : ℕ) → isMode number ≡ true → (c : List ℕ)
+    → T (within 1 14 (numberOf (shown (judging number c) .verdict)))
+unfolding judging
+judged-number number e c = told-in (modeOf number) c e
 
 -- ---- Writing
 

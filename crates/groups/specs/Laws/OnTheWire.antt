@@ -1,16 +1,16 @@
--- A content that is written is characters below 128, and such a content comes off the wire as it went on.
+-- A content that is written is HT and characters of 0x20 to 0x7E, and it comes off the wire as it went on.
 use mathlib.Core.Path.{_≡_, refl, subst}
 use mathlib.Core.Logic.{⊎-elim}
-use mathlib.Core.Bool.{Bool, true, false, _&&_}
+use mathlib.Core.Bool.{Bool, true, false, _&&_, _||_}
 use mathlib.Core.List.{List, [], _∷_, _++_, map}
-use Prim.Native.Nat.{ℕ, suc, _-_, _<_}
+use Prim.Native.Nat.{ℕ, suc, _-_, _≤_, _<_}
 use native.Mathlib.Omega.{arith}
-use lib.Dec.{T, leb, ltb, eqb, leb→le, ltb→lt, lt→ltb, eqb→eq}
+use lib.Dec.{T, leb, ltb, eqb, leb→le, le→leb, ltb→lt, lt→ltb, eqb→eq}
 use lib.ListN.{length, drop, length-append}
 use lib.Seq.{take-at}
 use mir.Facts.{and-yes, yes-and, or-yes}
 use Rattle.characters.specs.Answers.{given, every, every-weaker, every-joined, from-true}
-use Rattle.characters.specs.Wire.{wireByteOf, characterOf, isSound, LF, CR, SP}
+use Rattle.characters.specs.Wire.{wireByteOf, characterOf, isSound, HT, LF, CR, SP}
 use Rattle.characters.specs.WireLaws.{wire-sound, wire-character}
 use Rattle.groups.specs.Modes.{separator}
 use Rattle.groups.specs.Kinds.{within, ofKind}
@@ -27,44 +27,55 @@ use Rattle.groups.specs.declared.table.Kind.the-variants.{Digits, Hex, T
 use Rattle.groups.specs.declared.table.Mark.{Mark}
 use Rattle.groups.specs.declared.table.Mark.the-variants.{Unstamped, Letter, Space}
 
--- ---- Every character that is written is below 128
+-- ---- Every character that is written is HT or one of 0x20 to 0x7E
 
--- a number below 128, and a text of such
-abbrev pub isCharacter : ℕ → Bool
-isCharacter x = ltb x 128
+-- HT, or one of 0x20 to 0x7E, so no other control character; and a text of such
+abbrev pub isPlain : ℕ → Bool
+isPlain x = eqb x HT || within 0x20 0x7E x
 
-abbrev pub areCharacters : List ℕ → Bool
-areCharacters c = every isCharacter c
+abbrev pub arePlain : List ℕ → Bool
+arePlain c = every isPlain c
 
--- what is at most a number below 128 is below 128
-within-small : (low high x : ℕ) → high < 128 → T (within low high x) → T (isCharacter x)
-within-small low high x h t = lt→ltb x 128 (omega (arith, leb→le x high (and-yes (leb low x) (leb x high) t .1)))
+-- of two tests the second
+second : (a b : Bool) → T b → T (a || b)
+second true b t = tt
+second false b t = t
 
--- a character of a kind is below 128
-of-kind-small : (k : Kind) (x : ℕ) → T (ofKind k x) → T (isCharacter x)
-of-kind-small Digits x t = within-small 0x30 0x39 x (omega arith) t
-of-kind-small Hex x t =
-    ⊎-elim (within-small 0x30 0x39 x (omega arith)) (within-small 0x41 0x46 x (omega arith))
+-- what is between two of 0x20 to 0x7E is one of them
+within-plain : (low high x : ℕ) → 0x20 ≤ low → high ≤ 0x7E → T (within low high x) → T (isPlain x)
+within-plain low high x h k t =
+    let (u, v) = and-yes (leb low x) (leb x high) t in
+    second (eqb x HT) (within 0x20 0x7E x)
+    (yes-and (leb 0x20 x) (leb x 0x7E) (le→leb 0x20 x (omega (arith, leb→le low x u)))
+    (le→leb x 0x7E (omega (arith, leb→le x high v))))
+
+-- a character of a kind is one of them
+of-kind-plain : (k : Kind) (x : ℕ) → T (ofKind k x) → T (isPlain x)
+of-kind-plain Digits x t = within-plain 0x30 0x39 x (omega arith) (omega arith) t
+of-kind-plain Hex x t =
+    ⊎-elim (within-plain 0x30 0x39 x (omega arith) (omega arith)) (within-plain 0x41 0x46 x (omega arith) (omega arith))
     (or-yes (within 0x30 0x39 x) (within 0x41 0x46 x) t)
-of-kind-small Text x t = within-small 0x20 0x7E x (omega arith) t
+of-kind-plain Text x t = within-plain 0x20 0x7E x (omega arith) (omega arith) t
 
 -- so is a season
-season-small : (k : Mark) (x : ℕ) → T (seasonRight k x) → T (isCharacter x)
-season-small Unstamped x t = absurd t
-season-small Letter x t =
-    ⊎-elim (λ u. lt→ltb x 128 (omega (arith, eqb→eq x 0x48 u))) (λ u. lt→ltb x 128 (omega (arith, eqb→eq x 0x45 u)))
-    (or-yes (eqb x 0x48) (eqb x 0x45) t)
-season-small Space x t = lt→ltb x 128 (omega (arith, eqb→eq x SP t))
+season-plain : (k : Mark) (x : ℕ) → T (seasonRight k x) → T (isPlain x)
+season-plain Unstamped x t = absurd t
+season-plain Letter x t =
+    ⊎-elim (λ u. rw (eqb→eq x 0x48 u) tt) (λ u. rw (eqb→eq x 0x45 u) tt) (or-yes (eqb x 0x48) (eqb x 0x45) t)
+season-plain Space x t = rw (eqb→eq x SP t) tt
 
--- so is a separator
-separator-small : (m : Mode) → T (isCharacter (separator m))
-separator-small Historic = tt
-separator-small Standard = tt
+-- a separator is one of them or HT
+separator-plain : (m : Mode) → T (isPlain (separator m))
+separator-plain Historic = tt
+separator-plain Standard = tt
 
--- and so is a check character
-check-small : (m : Mode) (l b : List ℕ) → T (isCharacter (check m l b))
+-- and a check character is one of them
+check-plain : (m : Mode) (l b : List ℕ) → T (isPlain (check m l b))
 unfolding check
-check-small m l b = lt→ltb (check m l b) 128 (omega arith)
+check-plain m l b =
+    let k = check m l b in
+    second (eqb k HT) (within 0x20 0x7E k)
+    (yes-and (leb 0x20 k) (leb k 0x7E) (le→leb 0x20 k (omega arith)) (le→leb k 0x7E (omega arith)))
 
 -- of tests in a row the first
 first-of : (a b c d e f : Bool) → T (a && b && c && d && e && f) → T a
@@ -76,49 +87,74 @@ date-digits : (s : List ℕ) → T (dateRight s) → T (every (ofKind Digits) (d
 unfolding dateRight
 date-digits s t = first-of (every (ofKind Digits) (drop 1 s)) _ _ _ _ _ t
 
--- a right stamp is characters below 128
-stamp-small : (k : Mark) (s : List ℕ) → T (stampAs true k s) → T (areCharacters s)
+-- a right stamp is such characters
+stamp-plain : (k : Mark) (s : List ℕ) → T (stampAs true k s) → T (arePlain s)
 unfolding stampAs
-stamp-small k [] t = tt
-stamp-small k (x ∷ s) t =
+stamp-plain k [] t = tt
+stamp-plain k (x ∷ s) t =
     let h = and-yes (seasonRight k x) (dateRight (x ∷ s)) (and-yes (eqb (length (x ∷ s)) 13) _ t .1) in
-    yes-and (isCharacter x) (areCharacters s) (season-small k x (h .0))
-    (every-weaker (ofKind Digits) isCharacter (of-kind-small Digits) s (date-digits (x ∷ s) (h .1)))
+    yes-and (isPlain x) (arePlain s) (season-plain k x (h .0))
+    (every-weaker (ofKind Digits) isPlain (of-kind-plain Digits) s (date-digits (x ∷ s) (h .1)))
 
 -- so is a body of right stamp and such data
-body-small : (m : Mode) (b : Bool) (k : Mark) (s d : List ℕ) → T (stampAs b k s) → T (areCharacters d)
-    → T (areCharacters (body m b s d))
+body-plain : (m : Mode) (b : Bool) (k : Mark) (s d : List ℕ) → T (stampAs b k s) → T (arePlain d)
+    → T (arePlain (body m b s d))
 unfolding body
-body-small m false k s d t u = u
-body-small m true k s d t u =
-    every-joined isCharacter s (separator m ∷ d) (stamp-small k s t)
-    (yes-and (isCharacter (separator m)) (areCharacters d) (separator-small m) u)
+body-plain m false k s d t u = u
+body-plain m true k s d t u =
+    every-joined isPlain s (separator m ∷ d) (stamp-plain k s t)
+    (yes-and (isPlain (separator m)) (arePlain d) (separator-plain m) u)
 
 -- so is a content of such a label and such a body
-content-small : (m : Mode) (l b : List ℕ) → T (areCharacters l) → T (areCharacters b)
-    → T (areCharacters (content m l b))
+content-plain : (m : Mode) (l b : List ℕ) → T (arePlain l) → T (arePlain b) → T (arePlain (content m l b))
 unfolding content
-content-small m l b t u =
-    every-joined isCharacter l _ t
-    (yes-and (isCharacter (separator m)) _ (separator-small m)
-    (every-joined isCharacter b _ u
-    (yes-and (isCharacter (separator m)) _ (separator-small m)
-    (yes-and (isCharacter (check m l b)) true (check-small m l b) tt))))
+content-plain m l b t u =
+    every-joined isPlain l _ t
+    (yes-and (isPlain (separator m)) _ (separator-plain m)
+    (every-joined isPlain b _ u
+    (yes-and (isPlain (separator m)) _ (separator-plain m)
+    (yes-and (isPlain (check m l b)) true (check-plain m l b) tt))))
 
 -- so is every content that is written
-pub written-small : (m : Mode) (g : Group) (c : List ℕ) → compose m g ≡ given c → T (areCharacters c)
+pub written-plain : (m : Mode) (g : Group) (c : List ℕ) → compose m g ≡ given c → T (arePlain c)
 unfolding kindRight
-written-small m g c e =
+written-plain m g c e =
     let i = compose-given m c g e in
     let k = i .rule .mark in
     let row = listed-right m (g .label) (i .rule) (i .listed) in
-    subst (λ (c : List ℕ). T (areCharacters c)) (i .whole)
-    (content-small m (g .label) _
-    (every-weaker _ isCharacter (λ x t. within-small 0x21 0x7E x (omega arith) t) (g .label) (row .plain-label))
-    (body-small m (isStamped k) k (g .stamp) (g .«data») (i .fields .stamp-right)
-    (every-weaker _ isCharacter (of-kind-small (i .rule .kind)) (g .«data») (i .fields .kind-right))))
+    subst (λ (c : List ℕ). T (arePlain c)) (i .whole)
+    (content-plain m (g .label) _
+    (every-weaker _ isPlain (λ x t. within-plain 0x21 0x7E x (omega arith) (omega arith) t) (g .label) (row .plain-label))
+    (body-plain m (isStamped k) k (g .stamp) (g .«data») (i .fields .stamp-right)
+    (every-weaker _ isPlain (of-kind-plain (i .rule .kind)) (g .«data») (i .fields .kind-right))))
+
+-- ---- And so below 128
+
+-- a number below 128, and a text of such
+abbrev pub isCharacter : ℕ → Bool
+isCharacter x = ltb x 128
+
+abbrev pub areCharacters : List ℕ → Bool
+areCharacters c = every isCharacter c
+
+-- HT and 0x20 to 0x7E are below 128
+pub plain-below : (x : ℕ) → T (isPlain x) → x < 128
+plain-below x t =
+    ⊎-elim (λ u. omega (arith, eqb→eq x HT u))
+    (λ u. omega (arith, leb→le x 0x7E (and-yes (leb 0x20 x) (leb x 0x7E) u .1)))
+    (or-yes (eqb x HT) (within 0x20 0x7E x) t)
+
+-- every content that is written is characters below 128
+pub written-small : (m : Mode) (g : Group) (c : List ℕ) → compose m g ≡ given c → T (areCharacters c)
+written-small m g c e =
+    every-weaker isPlain isCharacter (λ x t. lt→ltb x 128 (plain-below x t)) c (written-plain m g c e)
 
 -- ---- On the wire and off it
+
+-- LF, the content's wire bytes, CR
+pub on-is : (c : List ℕ) → onTheWire c ≡ wireByteOf LF ∷ (map wireByteOf c ++ wireByteOf CR ∷ [])
+unfolding onTheWire
+on-is c = refl
 
 -- characters come back from their wire bytes
 read-back : (c : List ℕ) → T (areCharacters c) → map characterOf (map wireByteOf c) ≡ c

@@ -1,21 +1,23 @@
--- The stretches that judging shows are the fields.
-use mathlib.Core.Path.{_≡_, refl, _∙_, subst}
+-- The stretches that judging shows are the fields, and lie inside the content.
+use mathlib.Core.Path.{_≡_, refl, sym, _∙_, subst}
 use mathlib.Core.Bool.{Bool, true, false}
 use mathlib.Core.List.{List, [], _∷_, _++_, append-assoc}
-use Prim.Native.Nat.{ℕ, _+_, _≤_}
+use Prim.Native.Nat.{ℕ, zero, suc, _+_, _≤_}
 use native.Mathlib.Omega.{arith}
 use lib.Dec.{T, le→leb}
-use lib.ListN.{length, length-append}
-use lib.Seq.{take-at, drop-at}
-use Rattle.characters.specs.Answers.{given, found-given, pick, pick-yes}
+use lib.ListN.{length, take, drop, length-append}
+use lib.Seq.{take-at, drop-at, take-take, length-take-le}
+use Rattle.characters.specs.Answers.{Answer, refused, given, found-given, pick, pick-yes}
 use Rattle.groups.specs.Modes.{separator}
 use Rattle.groups.specs.Stamps.{isStamped, stampAs}
 use Rattle.groups.specs.Groups.{Group, content, body}
-use Rattle.groups.specs.Judging.{judging, stampSpan, stampStretch, shown, partOf, Shows}
-use Rattle.groups.specs.Inside.{RightFields}
-use Rattle.groups.specs.Laws.Groups.{length-zero, stamp-length, read-given}
+use Rattle.groups.specs.Judging.{judging, stampSpan, stampStretch, shown, partOf, Shows, Inside}
+use Rattle.groups.specs.Inside.{RightFields, stampRoom}
+use Rattle.groups.specs.Laws.Groups.{length-zero, stamp-length, body-length, content-length, read-given}
 use Rattle.groups.specs.declared.Mode.{Mode}
+use Rattle.groups.specs.declared.Refusal.{Refusal}
 use Rattle.groups.specs.declared.Refusal.the-variants.{ModeUnknown}
+use Rattle.groups.specs.declared.Stretch.{Stretch}
 use Rattle.groups.specs.declared.table.Mark.{Mark}
 use Rattle.groups.specs.declared.table.Rule.{Rule}
 
@@ -71,3 +73,72 @@ shows number c g e =
     let (m, em, h) = found-given _ ModeUnknown _ e in
     let i = read-given m c g h in
     rw e (subst (λ (c : List ℕ). Shows c (shown (given g)) g) (i .whole) (content-shows m g (i .rule) (i .fields)))
+
+-- ---- Inside the content
+
+-- what is shown of a group, in any n bytes that have room for label, body and three characters more
+group-inside : (g : Group) (b : Bool) (n : ℕ) → length (g .stamp) ≡ pick b 13 0
+    → n ≡ length (g .label) + (stampRoom b + length (g .«data»)) + 3
+    → Inside n (shown (given g))
+unfolding stampStretch stampSpan pick
+group-inside g false n s h =
+    record {
+      label-inside = omega arith;
+      stamp-inside = rw s (omega arith);
+      data-inside = rw s (omega arith);
+      all-short = rw s (omega arith);
+    }
+group-inside g true n s h =
+    record {
+      label-inside = omega arith;
+      stamp-inside = rw s (omega arith);
+      data-inside = rw s (omega arith);
+      all-short = rw s (omega arith);
+    }
+
+-- the content of a group, and what is shown of the group
+content-inside : (m : Mode) (g : Group) (r : Rule) → RightFields r (g .stamp) (g .«data»)
+    → Inside (length (content m (g .label) (body m (isStamped (r .mark)) (g .stamp) (g .«data»)))) (shown (given g))
+content-inside m g r f =
+    let b = isStamped (r .mark) in
+    let k = body-length m b (r .mark) (g .stamp) (g .«data») (f .stamp-right) in
+    group-inside g b _ (stamp-length b (r .mark) (g .stamp) (f .stamp-right))
+    (omega (arith, k, content-length m (g .label) (body m b (g .stamp) (g .«data»))))
+
+-- what judging shows of a content lies inside it
+pub shown-inside : (number : ℕ) (c : List ℕ) → Inside (length c) (shown (judging number c))
+unfolding judging
+shown-inside number c = go (judging number c) refl
+  where
+    go : (a : Answer Refusal Group) → judging number c ≡ a → Inside (length c) (shown a)
+    go (refused refusal) e =
+        record {
+          label-inside = omega arith;
+          stamp-inside = omega arith;
+          data-inside = omega arith;
+          all-short = omega arith;
+        }
+    go (given g) e =
+        let (m, em, h) = found-given _ ModeUnknown _ e in
+        let i = read-given m c g h in
+        subst (λ (c : List ℕ). Inside (length c) (shown (given g))) (i .whole) (content-inside m g (i .rule) (i .fields))
+
+-- ---- A stretch inside the first n bytes
+
+-- the first n bytes have the same bytes from a start on, up to the n-th
+front-part : (start k n : ℕ) (c : List ℕ) → start + k ≤ n → take k (drop start (take n c)) ≡ take k (drop start c)
+front-part zero k n c h = take-take k n c (omega arith)
+front-part (suc start) k zero c h = absurd (omega arith)
+front-part (suc start) k (suc n) [] h = refl
+front-part (suc start) k (suc n) (x ∷ c) h = front-part start k n c (omega arith)
+
+-- a stretch inside the first n bytes names the same bytes in the whole
+pub part-of-more : (s : Stretch) (n : ℕ) (c : List ℕ) → s .start + s .length ≤ n → n ≤ length c
+    → partOf s (take n c) ≡ partOf s c
+unfolding partOf
+part-of-more s n c h k =
+    let fits : s .start + s .length ≤ length (take n c) = rw (length-take-le n c k) h in
+    let fits-all : s .start + s .length ≤ length c = omega arith in
+    pick-yes _ _ _ (le→leb _ _ fits)
+    ∙ front-part (s .start) (s .length) n c h
+    ∙ sym (pick-yes _ _ _ (le→leb _ _ fits-all))

@@ -1,0 +1,3 @@
+-- Laws that only the proofs of functions need.
+pub mod Reactions
+pub mod Feeding

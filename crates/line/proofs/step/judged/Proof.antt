@@ -1,0 +1,57 @@
+-- Damaged, too long, or what the reader says.
+use Rattle.characters.specs.Answers.{pick}
+use Rattle.line.specs.Steps.{heardOf}
+use borrow.Author.Needs.{needs}
+use lib.ListN.{length, length-take}
+use mathlib.Core.Path.{_≡_}
+use native.Mathlib.Omega.{arith}
+use Rattle.line.proofs.step.judged.Statement.{statement}
+use Rattle.line.proofs.step.judged.Tie as tie
+
+returns : tie.Need-returns
+unfolding heardOf pick
+returns c = rw (c .if1 .taken)
+
+returns-2 : tie.Need-returns-2
+unfolding heardOf pick
+returns-2 c = rw (c .before .if1 .left, c .if2 .taken)
+
+array-share-prefix-content : tie.Need-array-share-prefix-content
+array-share-prefix-content c = let h : length (c .before .before .args .t4) ≡ 128 = search needs in omega arith
+
+slice-aggregate-judge : tie.Need-slice-aggregate-judge
+slice-aggregate-judge c =
+    let h : length (c .before .before .before .args .t4) ≡ 128 = search needs in simp length-take (omega arith)
+
+judge-requires : tie.Need-judge-requires
+judge-requires c κs = search needs
+
+enum-told : tie.Need-enum-told
+enum-told c = search needs
+
+enum-known-verdict : tie.Need-enum-known-verdict
+enum-known-verdict c = search needs
+
+returns-3 : tie.Need-returns-3
+unfolding heardOf pick
+returns-3 c =
+    rw (c .before .before .before .before .before .before .before .before .if1 .left, c .before .before .before .before .before .before .before .if2 .left, ← (c .before .before .before .before .before .judge .ensures), c .enum-told .given .1)
+
+returns-4 : tie.Need-returns-4
+unfolding heardOf pick
+returns-4 c =
+    rw (c .before .before .before .before .before .before .before .before .before .if1 .left, c .before .before .before .before .before .before .before .before .if2 .left, ← (c .before .before .before .before .before .before .judge .ensures), c .before .verdict .given .1)
+
+pub judged-spec : {M : Type 1} → statement M
+judged-spec =
+    tie.close
+    (tie.spec
+    returns
+    returns-2
+    array-share-prefix-content
+    slice-aggregate-judge
+    judge-requires
+    enum-told
+    enum-known-verdict
+    returns-3
+    returns-4)

@@ -1,0 +1,11 @@
+-- The frame rules and the line in document 01's terms; the same on the code's own numbers; then promises and laws.
+pub mod Symbols
+pub mod Rules
+pub mod Lines
+pub mod Between
+pub mod Numbers
+pub mod State
+pub mod Steps
+pub mod Views
+pub mod Laws
+pub mod Promises

@@ -1,0 +1,38 @@
+-- Document 01's numbers ("Numbers") for what a line tells.
+use mathlib.Core.List.{List}
+use Prim.Native.Nat.{ℕ}
+use Rattle.characters.specs.Answers.{refused, given}
+use Rattle.groups.specs.Numbers.{numberOfRefusal}
+use Rattle.line.specs.Lines.{LineAnswer}
+use Rattle.line.specs.declared.Notice.{Notice}
+use Rattle.line.specs.declared.Notice.the-variants.{
+  FrameSound,
+  FrameFlawed,
+  FrameInterrupted,
+  FrameRestarted,
+  GroupRestarted,
+  GroupDamaged,
+  GroupRefused,
+}
+use Rattle.line.specs.declared.Heard.{Heard}
+use Rattle.line.specs.declared.Heard.the-variants.{Nothing, Accepted, Told}
+
+abbrev pub numberOfNotice : Notice → ℕ
+numberOfNotice FrameSound = 2
+numberOfNotice FrameFlawed = 3
+numberOfNotice FrameInterrupted = 4
+numberOfNotice FrameRestarted = 5
+numberOfNotice GroupRestarted = 6
+numberOfNotice GroupDamaged = 7
+numberOfNotice (GroupRefused refusal) = numberOfRefusal refusal
+
+-- "1: group accepted"
+abbrev pub numberOfAnswer : LineAnswer → ℕ
+numberOfAnswer (given g) = 1
+numberOfAnswer (refused notice) = numberOfNotice notice
+
+-- what the code heard; 0 stands for no answer, which document 01 gives no number (its 0 is for calls)
+abbrev pub numberOf : Heard → ℕ
+numberOf Nothing = 0
+numberOf (Accepted fields) = 1
+numberOf (Told notice) = numberOfNotice notice

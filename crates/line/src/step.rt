@@ -1,0 +1,105 @@
+// One byte.
+use crate::Fields;
+use crate::Heard;
+use crate::LineState;
+use crate::Notice;
+use crate::rules;
+use crate::rules::Move;
+use crate::rules::Phase;
+use crate::state;
+use groups::Refusal;
+use groups::Verdict;
+ghost use mathlib.Core.Path.{_≡_};
+ghost use Prim.Native.Nat.{_≤_};
+ghost use lib.ListN.{length};
+ghost use Rattle.line.specs.Steps.{heardOf, endedOf, quietOf, Stepped, stepped};
+
+// What a byte did: the line afterwards, and what it gave.
+pub struct Reaction {
+    pub line: LineState,
+    pub heard: Heard,
+}
+
+// What a group that is complete gives.
+fn judged(mode: u8, damaged: bool, overlong: bool, content: [u8; 128], length: usize) -> Heard
+    requires { ⌜ length ≤ 128 ⌝ }
+    ensures { λ r. ⌜ r ≡ heardOf mode damaged overlong content length ⌝ }
+{
+    if damaged {
+        return Heard::Told(Notice::GroupDamaged);
+    }
+    if overlong {
+        return Heard::Told(Notice::GroupRefused(Refusal::TooLong));
+    }
+    let judged = groups::judge(mode, &content[..length]);
+    let verdict = judged.verdict;
+    let label = judged.label;
+    let stamp = judged.stamp;
+    let data = judged.data;
+    match verdict {
+        Verdict::Accepted => Heard::Accepted(Fields { label, stamp, data }),
+        Verdict::Refused(refusal) => Heard::Told(Notice::GroupRefused(refusal)),
+    }
+}
+
+// The frame goes on behind a group; one that is not accepted leaves it flawed.
+fn ended(mode: u8, flaw: bool, heard: Heard) -> Reaction
+    ensures { λ r. ⌜ r ≡ endedOf mode flaw heard ⌝ }
+{
+    match heard {
+        Heard::Accepted(fields) => Reaction {
+            line: state::state_of(mode, Phase::Frame(flaw), 0),
+            heard: Heard::Accepted(fields),
+        },
+        Heard::Told(notice) => Reaction {
+            line: state::state_of(mode, Phase::Frame(true), 0),
+            heard: Heard::Told(notice),
+        },
+        Heard::Nothing => Reaction {
+            line: state::state_of(mode, Phase::Frame(true), 0),
+            heard: Heard::Nothing,
+        },
+    }
+}
+
+pub(crate) fn step(line: LineState, content: &mut [u8; 128], byte: u8) -> Reaction
+    ensures { λ r. ⌜ Stepped (stepped line (now (content .entry)) byte) r (now (content .exit)) ⌝ }
+{
+    let mode = line.mode;
+    let length = state::held_in(line);
+    let does = rules::moved(state::phase_of(line), rules::symbol_of(byte));
+    match does {
+        Move::Quiet(phase) => quiet(mode, phase, length),
+        Move::Opens(flaw) => quiet(mode, Phase::Group(flaw, false, false), 0),
+        Move::Says(phase, notice) => Reaction {
+            line: state::state_of(mode, phase, 0),
+            heard: Heard::Told(notice),
+        },
+        Move::Adds(flaw, damaged, overlong, code) => {
+            if length < 128 {
+                let at = length as usize;
+                content[at] = code;
+                quiet(mode, Phase::Group(flaw, damaged, overlong), length + 1)
+            } else {
+                quiet(mode, Phase::Group(flaw, damaged, true), length)
+            }
+        }
+        Move::Judges(flaw, damaged, overlong) => {
+            let held = *content;
+            ended(
+                mode,
+                flaw,
+                judged(mode, damaged, overlong, held, length as usize),
+            )
+        }
+    }
+}
+
+fn quiet(mode: u8, phase: Phase, length: u16) -> Reaction
+    ensures { λ r. ⌜ r ≡ quietOf mode phase length ⌝ }
+{
+    Reaction {
+        line: state::state_of(mode, phase, length),
+        heard: Heard::Nothing,
+    }
+}
