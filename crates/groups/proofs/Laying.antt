@@ -64,7 +64,8 @@ map-append f (x ∷ a) b = ap (λ (l : List ℕ). f x ∷ l) (map-append f a b)
 pub laid-length : {b₀ : List ℕ} {at : ℕ} {w : List ℕ} {n : ℕ} {b : List ℕ} → Laid b₀ at w n b → length b ≡ length b₀
 laid-length {b₀} {at} {w} h = ap length (h .bytes) ∙ length-sets b₀ at w
 
-pub laid-then : {b₀ b b' : List ℕ} {at n n' : ℕ} {v w : List ℕ} → Laid b₀ at v n b → Laid b n w n' b' → Laid b₀ at (v ++ w) n' b'
+pub laid-then : {b₀ b b' : List ℕ} {at n n' : ℕ} {v w : List ℕ} → Laid b₀ at v n b → Laid b n w n' b'
+    → Laid b₀ at (v ++ w) n' b'
 laid-then {b₀ = b₀} {at = at} {v = v} {w = w} h k =
     record {
       upto = simp length-append (omega (arith, h .upto, k .upto));
@@ -97,7 +98,8 @@ body-stamped : (m : Mode) (s d : List ℕ) (b : Bool) → b ≡ true → body m 
 unfolding body
 body-stamped m s d b e = rw e
 
-pub total-stamped : (m : Mode) (s d : List ℕ) (b : Bool) → b ≡ true → total s + separator m + total d ≡ total (body m b s d)
+pub total-stamped : (m : Mode) (s d : List ℕ) (b : Bool) → b ≡ true
+    → total s + separator m + total d ≡ total (body m b s d)
 total-stamped m s d b e = rw (body-stamped m s d b e) (omega (arith, total-append s (separator m ∷ d)))
 
 -- ---- Sizes
@@ -159,26 +161,31 @@ module _ (m : Mode) (g : Group) (room : ℕ) where
   unfolding compose found writeBy
   write-listed r e = rw e
 
-  pub write-wrong : (r : Rule) (n : Refusal) → ((a : List ℕ) → checked r (g .stamp) (g .«data») a ≡ refused n) → writeBy m r g room ≡ refused n
+  pub write-wrong : (r : Rule) (n : Refusal) → ((a : List ℕ) → checked r (g .stamp) (g .«data») a ≡ refused n)
+      → writeBy m r g room ≡ refused n
   unfolding into writeBy
   write-wrong r n e = rw (e (content m (g .label) (body m (isStamped (r .mark)) (g .stamp) (g .«data»))))
 
-  pub write-tight : (r : Rule) → RightFields r (g .stamp) (g .«data») → room < length (onTheWire (content m (g .label) (body m (isStamped (r .mark)) (g .stamp) (g .«data»))))
+  pub write-tight : (r : Rule) → RightFields r (g .stamp) (g .«data»)
+      → room < length (onTheWire (content m (g .label) (body m (isStamped (r .mark)) (g .stamp) (g .«data»))))
       → writeBy m r g room ≡ refused NoRoom
   unfolding into need writeBy
   write-tight r f h = rw (checked-right r (g .stamp) (g .«data») (content m (g .label) (body m (isStamped (r .mark)) (g .stamp) (g .«data»))) f, lt-leb _ _ h)
 
-  pub write-done : (r : Rule) → RightFields r (g .stamp) (g .«data») → length (onTheWire (content m (g .label) (body m (isStamped (r .mark)) (g .stamp) (g .«data»)))) ≤ room
+  pub write-done : (r : Rule) → RightFields r (g .stamp) (g .«data»)
+      → length (onTheWire (content m (g .label) (body m (isStamped (r .mark)) (g .stamp) (g .«data»)))) ≤ room
       → writeBy m r g room ≡ given (onTheWire (content m (g .label) (body m (isStamped (r .mark)) (g .stamp) (g .«data»))))
   unfolding into need writeBy
   write-done r f h = rw (checked-right r (g .stamp) (g .«data») (content m (g .label) (body m (isStamped (r .mark)) (g .stamp) (g .«data»))) f, le-leb _ _ h)
 
 -- ---- What was written, under another name
 
-pub wrote-as : (b : List ℕ) (w v : Answer Refusal (List ℕ)) {r : Written} {b' : List ℕ} → w ≡ v → Wrote v b r b' → Wrote w b r b'
+pub wrote-as : (b : List ℕ) (w v : Answer Refusal (List ℕ)) {r : Written} {b' : List ℕ} → w ≡ v → Wrote v b r b'
+    → Wrote w b r b'
 wrote-as b w v {r = r} {b' = b'} e h = subst (λ (x : Answer Refusal (List ℕ)). Wrote x b r b') (sym e) h
 
-pub wrote-laid : (b : List ℕ) (w : Answer Refusal (List ℕ)) (x : List ℕ) {n : ℕ} {b' : List ℕ} → w ≡ given x → length x ≤ length b → Laid b 0 x n b'
+pub wrote-laid : (b : List ℕ) (w : Answer Refusal (List ℕ)) (x : List ℕ) {n : ℕ} {b' : List ℕ} → w ≡ given x
+    → length x ≤ length b → Laid b 0 x n b'
     → Wrote w b (record { outcome = Done; count = n }) b'
 wrote-laid b w x {n = n} e h l =
     let z : n ≡ length x = omega (arith, l .upto) in

@@ -40,7 +40,8 @@ module _ (l : List ℕ) (rows : List Row) (count i : ℕ) (d : Row) where
   unfolding lookup pick
   search-on h k t = rw (left-on h k, t)
 
-pub search-over : (l : List ℕ) (rows : List Row) (count i : ℕ) → count ≤ i → lookup l (map entryOf (drop i (take count rows))) ≡ none
+pub search-over : (l : List ℕ) (rows : List Row) (count i : ℕ) → count ≤ i
+    → lookup l (map entryOf (drop i (take count rows))) ≡ none
 unfolding lookup
 search-over l rows count i h = rw (drop-of-length-le (take count rows) {i = i} (simp length-take (omega arith)))
 

@@ -48,7 +48,8 @@ verdict-refused : {A : Type 0} (a : Answer Refusal A) (n : Refusal) → verdictO
 verdict-refused (refused k) n e = let z : k ≡ n = cc in ap refused z
 verdict-refused (given b) n e = let z : _≡_ {A = ℕ} 0 1 = cc in absurd (zero-is-not-one z)
 
-pub fit-right : {A : Type 0} (r : Rule) (s d : List ℕ) (a : A) → verdictOf (checked r s d a) ≡ Accepted → RightFields r s d
+pub fit-right : {A : Type 0} (r : Rule) (s d : List ℕ) (a : A) → verdictOf (checked r s d a) ≡ Accepted
+    → RightFields r s d
 fit-right r s d a e = checked-given r s d a (verdict-given (checked r s d a) e .1) .0
 
 pub fit-wrong : {A B : Type 0} (r : Rule) (s d : List ℕ) (a : A) (b : B) (n : Refusal)

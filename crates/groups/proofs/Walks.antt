@@ -113,7 +113,8 @@ module _ (a b : List ℕ) (i : ℕ) where
   pub same-differ : i < length a → i < length b → (getD a i 0 ≡ getD b i 0 → ⊥) → same (drop i a) (drop i b) ≡ false
   same-differ h k e = rw (drop-cons a i 0 h, drop-cons b i 0 k, ne-eqb _ _ e)
 
-  pub same-on : i < length a → i < length b → getD a i 0 ≡ getD b i 0 → same (drop i a) (drop i b) ≡ same (drop (i + 1) a) (drop (i + 1) b)
+  pub same-on : i < length a → i < length b → getD a i 0 ≡ getD b i 0
+      → same (drop i a) (drop i b) ≡ same (drop (i + 1) a) (drop (i + 1) b)
   same-on h k e = rw (add-one i, drop-cons a i 0 h, drop-cons b i 0 k, eq-eqb _ _ e)
 
   pub same-over : length a ≤ i → length a ≡ length b → same (drop i a) (drop i b) ≡ true

@@ -19,7 +19,8 @@ pub as-fed : {a : FedTo} (t : Taken) (g : List ℕ) → a ≡ record { result = 
 as-fed t g e = record { results = sym (ap (λ (x : FedTo). x .result) e); leaves = sym (ap (λ (x : FedTo). x .content) e) }
 
 module _ (l : LineState) (g bs : List ℕ) (i : ℕ) where
-  pub feed-over : length bs ≤ i → fed i l g (drop i bs) ≡ record { result = record { line = l; count = i; heard = Nothing }; content = g }
+  pub feed-over : length bs ≤ i
+      → fed i l g (drop i bs) ≡ record { result = record { line = l; count = i; heard = Nothing }; content = g }
   unfolding fed
   feed-over h = rw (drop-of-length-le bs h)
 

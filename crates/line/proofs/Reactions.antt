@@ -47,7 +47,8 @@ module _ (l : LineState) (g : List ℕ) (b : ℕ) {p : Phase} {y : Symbol} {x : 
       (ap (λ (s : LineState). record { line = s; heard = Told notice }) h)
 
   module _ (flaw damaged overlong : Bool) (c : ℕ) {r : Reaction} (e : x ≡ Adds flaw damaged overlong c) where
-    pub does-adds : n < 128 → r ≡ quietOf (l .mode) (Group flaw damaged overlong) (n + 1) → Stepped (stepped l g b) r (set g n c)
+    pub does-adds : n < 128 → r ≡ quietOf (l .mode) (Group flaw damaged overlong) (n + 1)
+        → Stepped (stepped l g b) r (set g n c)
     unfolding pick
     does-adds k h =
         as-stepped (record { result = quietOf (l .mode) (Group flaw damaged overlong) (n + 1); content = set g n c })

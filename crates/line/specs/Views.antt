@@ -281,7 +281,8 @@ act-view mode n g (Judges flaw damaged overlong) e k =
     ended-view mode flaw (heardOf mode damaged overlong g n) g _ e (verdict-view mode damaged overlong n g e k)
 
 -- a move asks for content only in a group
-move-held : (mode : ℕ) (p : Phase) (y : Symbol) (c : List ℕ) → does mode (heldBy p c) (move p y) ≡ does mode c (move p y)
+move-held : (mode : ℕ) (p : Phase) (y : Symbol) (c : List ℕ)
+    → does mode (heldBy p c) (move p y) ≡ does mode c (move p y)
 move-held mode Outside Stx c = refl
 move-held mode Outside Etx c = refl
 move-held mode Outside Eot c = refl

@@ -17,11 +17,13 @@ enum-told-2 c = search needs
 
 returns : tie.Need-returns
 returns c =
-    known-some (modeOf (c .before .before .before .args .number)) _ (sym (c .before .before .mode-of .ensures) ∙ c .enum-told .given .1)
+    let start = c .before .before .before in
+    known-some (modeOf (start .args .number)) _ (sym (c .before .before .mode-of .ensures) ∙ c .enum-told .given .1)
 
 returns-2 : tie.Need-returns-2
 returns-2 c =
-    known-none (modeOf (c .before .before .before .args .number)) (sym (c .before .before .mode-of .ensures) ∙ c .enum-told2 .given .1)
+    let start = c .before .before .before in
+    known-none (modeOf (start .args .number)) (sym (c .before .before .mode-of .ensures) ∙ c .enum-told2 .given .1)
 
 pub is-mode-spec : {M : Type 1} → statement M
 is-mode-spec = tie.close (tie.spec mode-of-requires enum-told enum-told-2 returns returns-2)

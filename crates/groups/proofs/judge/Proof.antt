@@ -23,11 +23,19 @@ refuse-requires c κs = search needs
 
 returns : tie.Need-returns
 returns c =
-    let g = c .before .before .before .before .before .before .args in c .read .ensures ∙ ap shown (sym (in-mode (g .mode) (g .content .now) _ (chosen-some _ _ (sym (c .before .before .before .before .mode-of .ensures) ∙ c .before .before .chosen .given .1))))
+    let at-mode-of = c .before .before .before .before in
+    let start = at-mode-of .before .before in
+    let g = start .args in
+    c .read .ensures ∙ ap shown (sym (in-mode (g .mode) (g .content .now) _ (chosen-some _ _ (sym
+    (at-mode-of .mode-of .ensures) ∙ c .before .before .chosen .given .1))))
 
 returns-2 : tie.Need-returns-2
 returns-2 c =
-    let g = c .before .before .before .before .before .args in c .refuse .ensures ∙ ap shown (sym (no-mode (g .mode) (g .content .now) (chosen-none _ (sym (c .before .before .before .mode-of .ensures) ∙ c .before .enum-told .given .1))))
+    let at-mode-of = c .before .before .before in
+    let start = at-mode-of .before .before in
+    let g = start .args in
+    c .refuse .ensures ∙ ap shown (sym (no-mode (g .mode) (g .content .now) (chosen-none _ (sym
+    (at-mode-of .mode-of .ensures) ∙ c .before .enum-told .given .1))))
 
 pub judge-spec : {M : Type 1} → statement M
 judge-spec =

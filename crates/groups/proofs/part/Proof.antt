@@ -16,7 +16,8 @@ slice-aggregate-result c = search needs
 returns : tie.Need-returns
 unfolding partOf pick
 returns c =
-    let g = c .before .before .args in rw (lt-leb (g .stretch .start + g .stretch .length) (length (g .content .now)) (omega arith))
+    let g = c .before .before .args in
+    rw (lt-leb (g .stretch .start + g .stretch .length) (length (g .content .now)) (omega arith))
 
 sub-if2 : tie.Need-sub-if2
 sub-if2 c = search needs
@@ -27,7 +28,9 @@ slice-aggregate-result-2 c = search needs
 returns-2 : tie.Need-returns-2
 unfolding partOf pick
 returns-2 c =
-    let g = c .before .before .before .args in rw (lt-leb (g .stretch .start + g .stretch .length) (length (g .content .now)) (omega arith))
+    let start = c .before .before .before in
+    let g = start .args in
+    rw (lt-leb (g .stretch .start + g .stretch .length) (length (g .content .now)) (omega arith))
 
 add-end : tie.Need-add-end
 add-end c = search needs
@@ -44,7 +47,10 @@ part-result-end c = search needs
 returns-3 : tie.Need-returns-3
 unfolding partOf pick
 returns-3 c =
-    let g = c .before .before .before .args in let e : g .stretch .start + g .stretch .length - g .stretch .start ≡ g .stretch .length = omega arith in rw (e, le-leb (g .stretch .start + g .stretch .length) (length (g .content .now)) (omega arith))
+    let start = c .before .before .before in
+    let g = start .args in
+    let e : g .stretch .start + g .stretch .length - g .stretch .start ≡ g .stretch .length = omega arith in
+    rw (e, le-leb (g .stretch .start + g .stretch .length) (length (g .content .now)) (omega arith))
 
 pub part-spec : {M : Type 1} → statement M
 part-spec =

@@ -28,14 +28,26 @@ same-length c = search needs
 
 returns : tie.Need-returns
 returns c =
-    let g = c .before .before .before .before .before .before .before .before .before .before .before .before .args in wrote-as (g .buffer .now) _ _ (write-mode (g .mode) (groupOf (g .label .now) (g .stamp .now) (g .«data» .now)) (length (g .buffer .now)) _ (chosen-some _ _ (sym (c .before .before .before .before .before .before .before .mode-of .ensures) ∙ c .before .before .before .before .before .chosen .given .1))) (c .before .before .write-in .ensures)
+    let at-chosen = c .before .before .before .before .before in
+    let at-mode-of = at-chosen .before .before in
+    let start = at-mode-of .before .before .before .before .before in
+    let g = start .args in
+    wrote-as (g .buffer .now) _ _ (write-mode (g .mode) (groupOf (g .label .now) (g .stamp .now) (g .«data» .now))
+    (length (g .buffer .now)) _ (chosen-some _ _ (sym (at-mode-of .mode-of .ensures) ∙ at-chosen .chosen .given .1)))
+    (c .before .before .write-in .ensures)
 
 same-length-2 : tie.Need-same-length-2
 same-length-2 c = search needs
 
 returns-2 : tie.Need-returns-2
 returns-2 c =
-    let g = c .before .before .before .before .before .before .before .before .before .before .before .args in wrote-as (g .buffer .now) _ _ (write-nowhere (g .mode) (groupOf (g .label .now) (g .stamp .now) (g .«data» .now)) (length (g .buffer .now)) (chosen-none _ (sym (c .before .before .before .before .before .before .mode-of .ensures) ∙ c .before .before .before .before .enum-told .given .1))) (c .before .before .stop .ensures)
+    let at-enum-told = c .before .before .before .before in
+    let at-mode-of = at-enum-told .before .before in
+    let start = at-mode-of .before .before .before .before .before in
+    let g = start .args in
+    wrote-as (g .buffer .now) _ _ (write-nowhere (g .mode) (groupOf (g .label .now) (g .stamp .now) (g .«data» .now))
+    (length (g .buffer .now)) (chosen-none _ (sym (at-mode-of .mode-of .ensures) ∙
+    at-enum-told .enum-told .given .1))) (c .before .before .stop .ensures)
 
 pub write-spec : {M : Type 1} → statement M
 write-spec =

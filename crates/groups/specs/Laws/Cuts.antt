@@ -26,7 +26,8 @@ cut-joined s (x ∷ l) a t =
 abbrev CutOf : ℕ → List ℕ → Cut → Type 0
 CutOf s c r = T (free s (r .before)) × (c ≡ r .before ++ s ∷ r .after)
 
-also-inv : (s x : ℕ) (c : List ℕ) (r : Cut) (o : Option Cut) → T (not (eqb x s)) → ((q : Cut) → o ≡ some q → CutOf s c q) → also x o ≡ some r → CutOf s (x ∷ c) r
+also-inv : (s x : ℕ) (c : List ℕ) (r : Cut) (o : Option Cut) → T (not (eqb x s))
+    → ((q : Cut) → o ≡ some q → CutOf s c q) → also x o ≡ some r → CutOf s (x ∷ c) r
 also-inv s x c r none t f e = not-some e
 also-inv s x c r (some q) t f e =
     let g : record { before = x ∷ q .before; after = q .after } ≡ r = cc in
@@ -62,7 +63,8 @@ ending-joined s (x ∷ b) k =
 abbrev EndOf : ℕ → List ℕ → Ending → Type 0
 EndOf s c r = c ≡ r .front ++ s ∷ r .last ∷ []
 
-ahead-inv : (s x : ℕ) (c : List ℕ) (r : Ending) (o : Option Ending) → ((q : Ending) → o ≡ some q → EndOf s c q) → ahead x o ≡ some r → EndOf s (x ∷ c) r
+ahead-inv : (s x : ℕ) (c : List ℕ) (r : Ending) (o : Option Ending) → ((q : Ending) → o ≡ some q → EndOf s c q)
+    → ahead x o ≡ some r → EndOf s (x ∷ c) r
 ahead-inv s x c r none f e = not-some e
 ahead-inv s x c r (some q) f e =
     let g : record { front = x ∷ q .front; last = q .last } ≡ r = cc in

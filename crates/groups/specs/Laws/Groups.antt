@@ -29,18 +29,21 @@ use Rattle.groups.specs.declared.table.Rule.{Rule}
 
 -- ---- Stamp and data of a body
 
-behindStamp-inv : (m : Mode) (s t : List ℕ) (p : Parts) → behindStamp m s t ≡ some p → s ++ t ≡ p .stamp ++ separator m ∷ p .«data»
+behindStamp-inv : (m : Mode) (s t : List ℕ) (p : Parts) → behindStamp m s t ≡ some p
+    → s ++ t ≡ p .stamp ++ separator m ∷ p .«data»
 behindStamp-inv m s [] p e = not-some e
 behindStamp-inv m s (x ∷ d) p e =
     by-pick (λ (o : Option Parts). o ≡ some p → s ++ x ∷ d ≡ p .stamp ++ separator m ∷ p .«data») (eqb x (separator m)) _ _
     (λ t e. here (eqb→eq x (separator m) t) e) (λ t e. not-some e) e
   where
-    here : x ≡ separator m → some (record { stamp = s; «data» = d }) ≡ some p → s ++ x ∷ d ≡ p .stamp ++ separator m ∷ p .«data»
+    here : x ≡ separator m → some (record { stamp = s; «data» = d }) ≡ some p
+        → s ++ x ∷ d ≡ p .stamp ++ separator m ∷ p .«data»
     here z e =
         let q : record { stamp = s; «data» = d } ≡ p = cc in
         rw z (ap (λ (r : Parts). r .stamp ++ separator m ∷ r .«data») q)
 
-pub parts-join : (m : Mode) (k : Bool) (b : List ℕ) (p : Parts) → parts m k b ≡ some p → b ≡ body m k (p .stamp) (p .«data»)
+pub parts-join : (m : Mode) (k : Bool) (b : List ℕ) (p : Parts) → parts m k b ≡ some p
+    → b ≡ body m k (p .stamp) (p .«data»)
 unfolding parts body
 parts-join m false b p e = cc
 parts-join m true b p e = sym (take-append-drop 13 b) ∙ behindStamp-inv m (take 13 b) (drop 13 b) p e
@@ -55,7 +58,8 @@ unfolding stampAs pick
 stamp-length false k s t = eqb→eq (length s) 0 t
 stamp-length true k s t = eqb→eq (length s) 13 (and-yes (eqb (length s) 13) (seasonRight k (getD s 0 0) && dateRight s) t .0)
 
-pub parts-joined : (m : Mode) (b : Bool) (k : Mark) (s d : List ℕ) → T (stampAs b k s) → parts m b (body m b s d) ≡ some (record { stamp = s; «data» = d })
+pub parts-joined : (m : Mode) (b : Bool) (k : Mark) (s d : List ℕ) → T (stampAs b k s)
+    → parts m b (body m b s d) ≡ some (record { stamp = s; «data» = d })
 unfolding parts body pick
 parts-joined m false k s d t = rw (← (length-zero s (stamp-length false k s t)))
 parts-joined m true k s d t =
@@ -67,7 +71,8 @@ pub checked-right : {A : Type 0} (r : Rule) (s d : List ℕ) (a : A) → RightFi
 unfolding checked
 checked-right r s d a f = need-yes _ _ (f .stamp-right) (need-yes _ _ (f .width-right) (need-yes _ _ (f .kind-right) refl))
 
-pub checked-given : {A : Type 0} {b : A} (r : Rule) (s d : List ℕ) (a : A) → checked r s d a ≡ given b → RightFields r s d × (a ≡ b)
+pub checked-given : {A : Type 0} {b : A} (r : Rule) (s d : List ℕ) (a : A) → checked r s d a ≡ given b
+    → RightFields r s d × (a ≡ b)
 unfolding checked
 checked-given r s d a e =
     let h = need-given _ StampWrong _ e in
@@ -126,7 +131,8 @@ pub width-most : (r : Rule) (n : ℕ) → T (widthRight r n) → n ≤ longest r
 unfolding widthRight
 width-most r n t = omega (arith, eqb→eq n (r .width) t)
 
-pub body-length : (m : Mode) (b : Bool) (k : Mark) (s d : List ℕ) → T (stampAs b k s) → length (body m b s d) ≡ stampRoom b + length d
+pub body-length : (m : Mode) (b : Bool) (k : Mark) (s d : List ℕ) → T (stampAs b k s)
+    → length (body m b s d) ≡ stampRoom b + length d
 unfolding body pick
 body-length m false k s d t = omega arith
 body-length m true k s d t = simp length-append (omega (arith, stamp-length true k s t))

@@ -85,7 +85,8 @@ module _ (m : Mode) (r : Rule) (l b : List ℕ) where
   unfolding fieldsOf parts found pick
   fields-short e h = rw (e, drop-of-length-le b {i = 13} (omega arith))
 
-  pub fields-unparted : isStamped (r .mark) ≡ true → 14 ≤ length b → (getD b 13 0 ≡ separator m → ⊥) → fieldsOf m r l b ≡ refused StampWrong
+  pub fields-unparted : isStamped (r .mark) ≡ true → 14 ≤ length b → (getD b 13 0 ≡ separator m → ⊥)
+      → fieldsOf m r l b ≡ refused StampWrong
   unfolding fieldsOf parts found pick
   fields-unparted e h n = rw (e, drop-cons b 13 0 h, ne-eqb _ _ n)
 
@@ -119,7 +120,8 @@ module _ (m : Mode) (l u : List ℕ) where
   behind-checked h n k = behind-closed h n ∙ rw (ne-eqb _ _ k)
 
   pub behind-unlisted : 2 ≤ length u → getD u (length u - 2) 0 ≡ separator m
-      → getD u (length u - 1) 0 ≡ check m l (take (length u - 2) u) → lookup l (rows m) ≡ none → behindLabel m l u ≡ refused LabelUnknown
+      → getD u (length u - 1) 0 ≡ check m l (take (length u - 2) u) → lookup l (rows m) ≡ none
+      → behindLabel m l u ≡ refused LabelUnknown
   unfolding need found
   behind-unlisted h n k o = behind-closed h n ∙ rw (eq-eqb _ _ k, o)
 

@@ -83,5 +83,6 @@ right-row m e t =
     let c = and-yes (leb 1 (length (e .label))) _ (b .0) in
     record { some-label = c .0; no-separator = c .1; plain-label = b .1; short = leb→le _ 128 (a .1) }
 
-pub listed-right : (m : Mode) (l : List ℕ) (r : Rule) → lookup l (rows m) ≡ some r → RightRow m (record { label = l; rule = r })
+pub listed-right : (m : Mode) (l : List ℕ) (r : Rule) → lookup l (rows m) ≡ some r
+    → RightRow m (record { label = l; rule = r })
 listed-right m l r e = right-row m (record { label = l; rule = r }) (found-passes (rightRow m) l (rows m) r (rows-right m) e)

@@ -37,25 +37,44 @@ loop-less c = search needs
 
 loop-again : tie.Need-loop-again Inv-loop μ-loop
 loop-again c =
-    let l = c .before .before .before .before .before .before .before .loop in (omega arith, l .inv .1 ∙ feed-on (l .at) (l .content) (c .before .before .before .before .before .before .before .before .before .args .bytes .now) (l .i) (omega arith) (c .before .before .before .step .result) _ (c .before .before .before .step .ensures) (c .enum-told .given .1))
+    let at-step = c .before .before .before in
+    let at-loop = at-step .before .before .before .before in
+    let start = at-loop .before .before in
+    let l = at-loop .loop in (
+      omega arith,
+      l .inv .1 ∙ feed-on (l .at) (l .content) (start .args .bytes .now) (l .i) (omega arith)
+          (at-step .step .result) _ (at-step .step .ensures) (c .enum-told .given .1),
+    )
 
 enum-known-heard : tie.Need-enum-known-heard Inv-loop μ-loop
 enum-known-heard c = search needs
 
 returns : tie.Need-returns Inv-loop μ-loop
 returns c =
-    let l = c .before .before .before .before .before .before .before .before .loop in as-fed _ _ (l .inv .1 ∙ feed-accepted (l .at) (l .content) (c .before .before .before .before .before .before .before .before .before .before .args .bytes .now) (l .i) (omega arith) (c .before .before .before .before .step .result) _ (c .before .before .before .before .step .ensures) _ (c .before .heard .given .1))
+    let at-step = c .before .before .before .before in
+    let at-loop = at-step .before .before .before .before in
+    let start = at-loop .before .before in
+    let l = at-loop .loop in
+    as-fed _ _ (l .inv .1 ∙ feed-accepted (l .at) (l .content) (start .args .bytes .now) (l .i) (omega arith)
+    (at-step .step .result) _ (at-step .step .ensures) _ (c .before .heard .given .1))
 
 enum-known-heard-2 : tie.Need-enum-known-heard-2 Inv-loop μ-loop
 enum-known-heard-2 c = search needs
 
 returns-2 : tie.Need-returns-2 Inv-loop μ-loop
 returns-2 c =
-    let l = c .before .before .before .before .before .before .before .before .loop in as-fed _ _ (l .inv .1 ∙ feed-told (l .at) (l .content) (c .before .before .before .before .before .before .before .before .before .before .args .bytes .now) (l .i) (omega arith) (c .before .before .before .before .step .result) _ (c .before .before .before .before .step .ensures) _ (c .before .heard2 .given .1))
+    let at-step = c .before .before .before .before in
+    let at-loop = at-step .before .before .before .before in
+    let start = at-loop .before .before in
+    let l = at-loop .loop in
+    as-fed _ _ (l .inv .1 ∙ feed-told (l .at) (l .content) (start .args .bytes .now) (l .i) (omega arith)
+    (at-step .step .result) _ (at-step .step .ensures) _ (c .before .heard2 .given .1))
 
 returns-3 : tie.Need-returns-3 Inv-loop μ-loop
 returns-3 c =
-    let l = c .before .loop in as-fed _ _ (l .inv .1 ∙ feed-over (l .at) (l .content) (c .before .before .before .args .bytes .now) (l .i) (omega arith))
+    let start = c .before .before .before in
+    let l = c .before .loop in
+    as-fed _ _ (l .inv .1 ∙ feed-over (l .at) (l .content) (start .args .bytes .now) (l .i) (omega arith))
 
 pub feed-spec : {M : Type 1} → statement M
 feed-spec =

@@ -143,7 +143,8 @@ spoils : (mode : ℕ) (s : State) (b : ℕ) (bs : List ℕ) (y : Symbol) → sym
 spoils mode s b bs y e t u h = no-way-back mode _ bs t u (rw (after-at mode s b bs e) at h)
 
 -- and so it is where that byte stands behind an LF and bytes of its group
-spoils-group : (mode lf : ℕ) (inner : List ℕ) (b : ℕ) (bs : List ℕ) (y : Symbol) → symbolOf lf ≡ Lf → T (noControl inner)
+spoils-group : (mode lf : ℕ) (inner : List ℕ) (b : ℕ) (bs : List ℕ) (y : Symbol) → symbolOf lf ≡ Lf
+    → T (noControl inner)
     → symbolOf b ≡ y → T (noStx bs)
     → ((damaged overlong : Bool) (c : List ℕ) → T (isSpoilt (does mode c (move (InGroup false damaged overlong) y) .state .phase)))
     → Clean mode (lf ∷ (inner ++ b ∷ bs)) → ⊥

@@ -18,12 +18,26 @@ wrong-at-requires c κs = search needs
 returns : tie.Need-returns
 unfolding checked need widthRight kindRight
 returns c =
-    rw (sym (c .before .before .before .before .stamp-right .ensures) ∙ c .before .before .before .if1 .taken, eq-eqb _ _ (c .before .before .if2 .taken), all-right (ofKind (c .before .before .before .before .before .before .before .args .rule .kind)) (c .before .before .before .before .before .before .before .args .«data» .now) (sym (c .before .wrong-at .ensures) ∙ c .if3 .taken))
+    let at-if1 = c .before .before .before in
+    let at-stamp-right = at-if1 .before in
+    let start = at-stamp-right .before .before .before in
+    rw (
+      sym (at-stamp-right .stamp-right .ensures) ∙ at-if1 .if1 .taken,
+      eq-eqb _ _ (c .before .before .if2 .taken),
+      all-right (ofKind (start .args .rule .kind)) (start .args .«data» .now) (sym (c .before .wrong-at .ensures) ∙ c .if3 .taken),
+    )
 
 returns-2 : tie.Need-returns-2
 unfolding checked need widthRight kindRight
 returns-2 c =
-    rw (sym (c .before .before .before .before .stamp-right .ensures) ∙ c .before .before .before .if1 .taken, eq-eqb _ _ (c .before .before .if2 .taken), some-wrong (ofKind (c .before .before .before .before .before .before .before .args .rule .kind)) (c .before .before .before .before .before .before .before .args .«data» .now) (λ z. c .if3 .left (c .before .wrong-at .ensures ∙ z)))
+    let at-if1 = c .before .before .before in
+    let at-stamp-right = at-if1 .before in
+    let start = at-stamp-right .before .before .before in
+    rw (
+      sym (at-stamp-right .stamp-right .ensures) ∙ at-if1 .if1 .taken,
+      eq-eqb _ _ (c .before .before .if2 .taken),
+      some-wrong (ofKind (start .args .rule .kind)) (start .args .«data» .now) (λ z. c .if3 .left (c .before .wrong-at .ensures ∙ z)),
+    )
 
 returns-3 : tie.Need-returns-3
 unfolding checked need widthRight kindRight

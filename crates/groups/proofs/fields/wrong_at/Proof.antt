@@ -33,15 +33,34 @@ loop-less c = search needs
 
 loop-again : tie.Need-loop-again Inv-loop μ-loop
 loop-again c =
-    let l = c .before .before .before .before .loop in (omega arith, omega (arith, l .inv .1, wrong-on (ofKind (c .before .before .before .before .before .before .args .kind)) (c .before .before .before .before .before .before .args .text .now) (l .i) (omega arith) (sym (c .before .of-kind .ensures) ∙ c .if1 .taken)))
+    let at-loop = c .before .before .before .before in
+    let start = at-loop .before .before in
+    let l = at-loop .loop in (
+      omega arith,
+      omega (
+        arith,
+        l .inv .1,
+        wrong-on (ofKind (start .args .kind)) (start .args .text .now) (l .i)
+            (omega arith) (sym (c .before .of-kind .ensures) ∙ c .if1 .taken),
+      ),
+    )
 
 returns : tie.Need-returns Inv-loop μ-loop
 returns c =
-    let l = c .before .before .before .before .loop in omega (arith, l .inv .1, wrong-here (ofKind (c .before .before .before .before .before .before .args .kind)) (c .before .before .before .before .before .before .args .text .now) (l .i) (omega arith) (sym (c .before .of-kind .ensures) ∙ c .if1 .left))
+    let at-loop = c .before .before .before .before in
+    let start = at-loop .before .before in
+    let l = at-loop .loop in
+    omega (
+      arith,
+      l .inv .1,
+      wrong-here (ofKind (start .args .kind)) (start .args .text .now) (l .i) (omega arith) (sym (c .before .of-kind .ensures) ∙ c .if1 .left),
+    )
 
 returns-2 : tie.Need-returns-2 Inv-loop μ-loop
 returns-2 c =
-    let l = c .before .loop in omega (arith, l .inv .1, wrong-over (ofKind (c .before .before .before .args .kind)) (c .before .before .before .args .text .now) (l .i) (omega arith))
+    let start = c .before .before .before in
+    let l = c .before .loop in
+    omega (arith, l .inv .1, wrong-over (ofKind (start .args .kind)) (start .args .text .now) (l .i) (omega arith))
 
 pub wrong-at-spec : {M : Type 1} → statement M
 wrong-at-spec =

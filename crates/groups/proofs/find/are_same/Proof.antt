@@ -29,7 +29,11 @@ shared-slice-read-if2-2 c = search needs
 
 returns-2 : tie.Need-returns-2 Inv-loop μ-loop
 returns-2 c =
-    let l = c .before .before .before .before .loop in sym (l .inv .2 ∙ same-differ (c .before .before .before .before .before .before .args .a .now) (c .before .before .before .before .before .before .args .b .now) (l .i) (omega arith) (omega arith) (c .if2 .taken))
+    let at-loop = c .before .before .before .before in
+    let start = at-loop .before .before in
+    let l = at-loop .loop in
+    sym (l .inv .2 ∙ same-differ (start .args .a .now) (start .args .b .now) (l .i) (omega arith) (omega arith)
+    (c .if2 .taken))
 
 add-i : tie.Need-add-i Inv-loop μ-loop
 add-i c = search needs
@@ -39,11 +43,20 @@ loop-less c = search needs
 
 loop-again : tie.Need-loop-again Inv-loop μ-loop
 loop-again c =
-    let l = c .before .before .before .before .loop in (search needs, search needs, l .inv .2 ∙ same-on (c .before .before .before .before .before .before .args .a .now) (c .before .before .before .before .before .before .args .b .now) (l .i) (omega arith) (omega arith) (c .if2 .left))
+    let at-loop = c .before .before .before .before in
+    let start = at-loop .before .before in
+    let l = at-loop .loop in (
+      search needs,
+      search needs,
+      l .inv .2 ∙ same-on (start .args .a .now) (start .args .b .now) (l .i) (omega arith)
+          (omega arith) (c .if2 .left),
+    )
 
 returns-3 : tie.Need-returns-3 Inv-loop μ-loop
 returns-3 c =
-    let l = c .before .loop in sym (l .inv .2 ∙ same-over (c .before .before .before .args .a .now) (c .before .before .before .args .b .now) (l .i) (omega arith) (l .inv .1))
+    let start = c .before .before .before in
+    let l = c .before .loop in
+    sym (l .inv .2 ∙ same-over (start .args .a .now) (start .args .b .now) (l .i) (omega arith) (l .inv .1))
 
 pub are-same-spec : {M : Type 1} → statement M
 are-same-spec =

@@ -7,11 +7,15 @@ use Rattle.groups.proofs.find.is_named.Statement.{statement}
 use Rattle.groups.proofs.find.is_named.Tie as tie
 
 array-share-prefix-bytes : tie.Need-array-share-prefix-bytes
-array-share-prefix-bytes c = let h : length (c .before .before .args .row .0) ≡ 9 = search needs in omega arith
+array-share-prefix-bytes c =
+    let h : length (c .before .before .args .row .0) ≡ 9 = search needs in
+    omega arith
 
 slice-aggregate-are-same : tie.Need-slice-aggregate-are-same
 slice-aggregate-are-same c =
-    let h : length (c .before .before .before .args .row .0) ≡ 9 = search needs in simp length-take (omega arith)
+    let start = c .before .before .before in
+    let h : length (start .args .row .0) ≡ 9 = search needs in
+    simp length-take (omega arith)
 
 are-same-requires : tie.Need-are-same-requires
 are-same-requires c κs = search needs

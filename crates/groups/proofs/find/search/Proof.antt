@@ -13,7 +13,8 @@ use Rattle.groups.proofs.find.search.Tie as tie
 
 abbrev Inv-loop : tie.InvT-loop
 Inv-loop label count rows i₀ i =
-    (i ≤ count) × (lookup label (map entryOf (take count rows)) ≡ lookup label (map entryOf (drop i (take count rows))))
+    (i ≤ count) × (lookup label (map entryOf (take count rows)) ≡ lookup label (map entryOf (drop i (take count
+    rows))))
 
 abbrev μ-loop : tie.MeasureT-loop
 μ-loop label count rows i₀ i = count - i
@@ -29,11 +30,18 @@ array-copy-out-row c = search needs
 
 is-named-requires : tie.Need-is-named-requires Inv-loop μ-loop
 is-named-requires c κs =
-    let h : length (c .before .before .before .before .args .t2) ≡ 9 = search needs in row-fits (c .before .before .before .before .args .t2) (c .before .before .loop .i) _ (c .before .before .before .before .pre .1) (omega arith)
+    let start = c .before .before .before .before in
+    let h : length (start .args .t2) ≡ 9 = search needs in
+    row-fits (start .args .t2) (c .before .before .loop .i) _ (start .pre .1) (omega arith)
 
 returns : tie.Need-returns Inv-loop μ-loop
 returns c =
-    let l = c .before .before .before .before .loop in let h : length (c .before .before .before .before .before .before .args .t2) ≡ 9 = search needs in ap foundOf (sym (l .inv .1 ∙ search-here (c .before .before .before .before .before .before .args .label .now) (c .before .before .before .before .before .before .args .t2) (c .before .before .before .before .before .before .args .count) (l .i) _ (omega arith) (omega arith) (sym (c .before .is-named .ensures) ∙ c .if1 .taken)))
+    let at-loop = c .before .before .before .before in
+    let start = at-loop .before .before in
+    let l = at-loop .loop in
+    let h : length (start .args .t2) ≡ 9 = search needs in
+    ap foundOf (sym (l .inv .1 ∙ search-here (start .args .label .now) (start .args .t2) (start .args .count) (l .i) _
+    (omega arith) (omega arith) (sym (c .before .is-named .ensures) ∙ c .if1 .taken)))
 
 add-i : tie.Need-add-i Inv-loop μ-loop
 add-i c = search needs
@@ -43,11 +51,21 @@ loop-less c = search needs
 
 loop-again : tie.Need-loop-again Inv-loop μ-loop
 loop-again c =
-    let l = c .before .before .before .before .loop in let h : length (c .before .before .before .before .before .before .args .t2) ≡ 9 = search needs in (omega arith, l .inv .1 ∙ search-on (c .before .before .before .before .before .before .args .label .now) (c .before .before .before .before .before .before .args .t2) (c .before .before .before .before .before .before .args .count) (l .i) _ (omega arith) (omega arith) (sym (c .before .is-named .ensures) ∙ c .if1 .left))
+    let at-loop = c .before .before .before .before in
+    let start = at-loop .before .before in
+    let l = at-loop .loop in
+    let h : length (start .args .t2) ≡ 9 = search needs in (
+      omega arith,
+      l .inv .1 ∙ search-on (start .args .label .now) (start .args .t2) (start .args .count) (l .i) _
+          (omega arith) (omega arith) (sym (c .before .is-named .ensures) ∙ c .if1 .left),
+    )
 
 returns-2 : tie.Need-returns-2 Inv-loop μ-loop
 returns-2 c =
-    let l = c .before .loop in ap foundOf (sym (l .inv .1 ∙ search-over (c .before .before .before .args .label .now) (c .before .before .before .args .t2) (c .before .before .before .args .count) (l .i) (omega arith)))
+    let start = c .before .before .before in
+    let l = c .before .loop in
+    ap foundOf (sym (l .inv .1 ∙ search-over (start .args .label .now) (start .args .t2) (start .args .count) (l .i)
+    (omega arith)))
 
 pub search-spec : {M : Type 1} → statement M
 search-spec =

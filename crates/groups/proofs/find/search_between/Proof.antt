@@ -27,7 +27,12 @@ enum-known-found c = search needs
 
 returns : tie.Need-returns Inv-loop μ-loop
 returns c =
-    let l = c .before .before .before .before .before .loop in ap foundOf (sym (l .inv .1 ∙ piece-here (c .before .before .before .before .before .before .before .args .label .now) (l .i) (c .before .before .before .before .before .before .before .args .to) _ (omega arith) (omega arith) (found-some _ _ (sym (c .before .before .before .search-piece .ensures) ∙ c .before .found .given .1))))
+    let at-search-piece = c .before .before .before in
+    let at-loop = at-search-piece .before .before in
+    let start = at-loop .before .before in
+    let l = at-loop .loop in
+    ap foundOf (sym (l .inv .1 ∙ piece-here (start .args .label .now) (l .i) (start .args .to) _ (omega arith) (omega
+    arith) (found-some _ _ (sym (at-search-piece .search-piece .ensures) ∙ c .before .found .given .1))))
 
 enum-told : tie.Need-enum-told Inv-loop μ-loop
 enum-told c = search needs
@@ -40,11 +45,19 @@ loop-less c = search needs
 
 loop-again : tie.Need-loop-again Inv-loop μ-loop
 loop-again c =
-    let l = c .before .before .before .before .loop in (omega arith, l .inv .1 ∙ piece-on (c .before .before .before .before .before .before .args .label .now) (l .i) (c .before .before .before .before .before .before .args .to) (omega arith) (omega arith) (found-none _ (sym (c .before .before .search-piece .ensures) ∙ c .enum-told .given .1)))
+    let at-loop = c .before .before .before .before in
+    let start = at-loop .before .before in
+    let l = at-loop .loop in (
+      omega arith,
+      l .inv .1 ∙ piece-on (start .args .label .now) (l .i) (start .args .to) (omega arith) (omega arith)
+          (found-none _ (sym (c .before .before .search-piece .ensures) ∙ c .enum-told .given .1)),
+    )
 
 returns-2 : tie.Need-returns-2 Inv-loop μ-loop
 returns-2 c =
-    let l = c .before .loop in ap foundOf (sym (l .inv .1 ∙ piece-over (c .before .before .before .args .label .now) (l .i) (c .before .before .before .args .to) (omega arith)))
+    let start = c .before .before .before in
+    let l = c .before .loop in
+    ap foundOf (sym (l .inv .1 ∙ piece-over (start .args .label .now) (l .i) (start .args .to) (omega arith)))
 
 pub search-between-spec : {M : Type 1} → statement M
 search-between-spec =

@@ -14,7 +14,10 @@ refuse-requires c κs = search needs
 
 returns : tie.Need-returns
 returns c =
-    let g = c .before .before .before .before .args in c .refuse .ensures ∙ ap shown (sym (behind-short (g .mode) (g .label .now) (g .rest .now) (c .before .if1 .taken)))
+    let start = c .before .before .before .before in
+    let g = start .args in
+    c .refuse .ensures ∙ ap shown (sym (behind-short (g .mode) (g .label .now) (g .rest .now)
+    (c .before .if1 .taken)))
 
 shared-slice-read-if2 : tie.Need-shared-slice-read-if2
 shared-slice-read-if2 c = search needs
@@ -27,7 +30,11 @@ refuse-requires-2 c κs = search needs
 
 returns-2 : tie.Need-returns-2
 returns-2 c =
-    let g = c .before .before .before .before .before .before .before .args in c .refuse2 .ensures ∙ ap shown (sym (behind-open (g .mode) (g .label .now) (g .rest .now) (c .before .before .before .before .if1 .left) (λ z. c .before .if2 .taken (z ∙ sym (c .before .before .separator-of .ensures)))))
+    let at-if1 = c .before .before .before .before in
+    let start = at-if1 .before .before .before in
+    let g = start .args in
+    c .refuse2 .ensures ∙ ap shown (sym (behind-open (g .mode) (g .label .now) (g .rest .now) (at-if1 .if1 .left) (λ
+    z. c .before .if2 .taken (z ∙ sym (c .before .before .separator-of .ensures)))))
 
 slice-aggregate-body : tie.Need-slice-aggregate-body
 slice-aggregate-body c = simp length-take (omega arith)
@@ -40,14 +47,22 @@ shared-slice-read-if3 c = search needs
 
 check-of-requires : tie.Need-check-of-requires
 check-of-requires c κs =
-    (c .before .before .before .before .before .before .before .before .pre .0, simp length-take (omega (arith, c .before .before .before .before .before .before .before .before .pre .1)))
+    let start = c .before .before .before .before .before .before .before .before in
+    (start .pre .0, simp length-take (omega (arith, start .pre .1)))
 
 refuse-requires-3 : tie.Need-refuse-requires-3
 refuse-requires-3 c κs = search needs
 
 returns-3 : tie.Need-returns-3
 returns-3 c =
-    let g = c .before .before .before .before .before .before .before .before .before .before .before .args in c .refuse3 .ensures ∙ ap shown (sym (behind-checked (g .mode) (g .label .now) (g .rest .now) (c .before .before .before .before .before .before .before .before .if1 .left) (c .before .before .before .before .before .if2 .left ∙ c .before .before .before .before .before .before .separator-of .ensures) (λ z. c .before .if3 .taken (z ∙ sym (c .before .before .check-of .ensures)))))
+    let at-if2 = c .before .before .before .before .before in
+    let at-separator-of = at-if2 .before in
+    let at-if1 = at-separator-of .before .before in
+    let start = at-if1 .before .before .before in
+    let g = start .args in
+    c .refuse3 .ensures ∙ ap shown (sym (behind-checked (g .mode) (g .label .now) (g .rest .now) (at-if1 .if1 .left)
+    (at-if2 .if2 .left ∙ at-separator-of .separator-of .ensures) (λ z. c .before .if3 .taken (z ∙ sym
+    (c .before .before .check-of .ensures)))))
 
 find-requires : tie.Need-find-requires
 find-requires c κs = search needs
@@ -66,11 +81,32 @@ refuse-requires-4 c κs = search needs
 
 returns-4 : tie.Need-returns-4
 returns-4 c =
-    let g = c .before .before .before .before .before .before .before .before .before .before .before .before .before .before .before .args in c .fields-of .ensures ∙ ap shown (sym (behind-listed (g .mode) (g .label .now) (g .rest .now) _ (c .before .before .before .before .before .before .before .before .before .before .before .before .if1 .left) (c .before .before .before .before .before .before .before .before .before .if2 .left ∙ c .before .before .before .before .before .before .before .before .before .before .separator-of .ensures) (c .before .before .before .before .before .if3 .left ∙ c .before .before .before .before .before .before .check-of .ensures) (found-some _ _ (sym (c .before .before .before .before .find .ensures) ∙ c .before .before .found .given .1))))
+    let at-find = c .before .before .before .before in
+    let at-if3 = at-find .before in
+    let at-check-of = at-if3 .before in
+    let at-if2 = at-check-of .before .before .before in
+    let at-separator-of = at-if2 .before in
+    let at-if1 = at-separator-of .before .before in
+    let start = at-if1 .before .before .before in
+    let g = start .args in
+    c .fields-of .ensures ∙ ap shown (sym (behind-listed (g .mode) (g .label .now) (g .rest .now) _
+    (at-if1 .if1 .left) (at-if2 .if2 .left ∙ at-separator-of .separator-of .ensures) (at-if3 .if3 .left ∙
+    at-check-of .check-of .ensures) (found-some _ _ (sym (at-find .find .ensures) ∙
+    c .before .before .found .given .1))))
 
 returns-5 : tie.Need-returns-5
 returns-5 c =
-    let g = c .before .before .before .before .before .before .before .before .before .before .before .before .before .before .args in c .refuse4 .ensures ∙ ap shown (sym (behind-unlisted (g .mode) (g .label .now) (g .rest .now) (c .before .before .before .before .before .before .before .before .before .before .before .if1 .left) (c .before .before .before .before .before .before .before .before .if2 .left ∙ c .before .before .before .before .before .before .before .before .before .separator-of .ensures) (c .before .before .before .before .if3 .left ∙ c .before .before .before .before .before .check-of .ensures) (found-none _ (sym (c .before .before .before .find .ensures) ∙ c .before .enum-told .given .1))))
+    let at-find = c .before .before .before in
+    let at-if3 = at-find .before in
+    let at-check-of = at-if3 .before in
+    let at-if2 = at-check-of .before .before .before in
+    let at-separator-of = at-if2 .before in
+    let at-if1 = at-separator-of .before .before in
+    let start = at-if1 .before .before .before in
+    let g = start .args in
+    c .refuse4 .ensures ∙ ap shown (sym (behind-unlisted (g .mode) (g .label .now) (g .rest .now) (at-if1 .if1 .left)
+    (at-if2 .if2 .left ∙ at-separator-of .separator-of .ensures) (at-if3 .if3 .left ∙ at-check-of .check-of .ensures)
+    (found-none _ (sym (at-find .find .ensures) ∙ c .before .enum-told .given .1))))
 
 pub behind-label-spec : {M : Type 1} → statement M
 behind-label-spec =

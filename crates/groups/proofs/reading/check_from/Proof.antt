@@ -23,15 +23,18 @@ sum-requires c κs = search needs
 
 add-result : tie.Need-add-result
 add-result c =
-    omega (arith, separator-small (c .before .before .before .before .args .mode), counted-small (c .before .before .before .before .args .mode))
+    let start = c .before .before .before .before in
+    omega (arith, separator-small (start .args .mode), counted-small (start .args .mode))
 
 add-result-2 : tie.Need-add-result-2
 add-result-2 c =
-    omega (arith, separator-small (c .before .before .before .before .args .mode), counted-small (c .before .before .before .before .args .mode))
+    let start = c .before .before .before .before in
+    omega (arith, separator-small (start .args .mode), counted-small (start .args .mode))
 
 add-result-3 : tie.Need-add-result-3
 add-result-3 c =
-    omega (arith, separator-small (c .before .before .before .before .args .mode), counted-small (c .before .before .before .before .args .mode))
+    let start = c .before .before .before .before in
+    omega (arith, separator-small (start .args .mode), counted-small (start .args .mode))
 
 cast-result : tie.Need-cast-result
 cast-result c = search needs

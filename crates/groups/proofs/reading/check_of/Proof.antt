@@ -15,7 +15,9 @@ check-from-requires c κs = search needs
 
 returns : tie.Need-returns
 returns c =
-    c .check-from .ensures ∙ ap (λ (t : ℕ). checkFrom (c .before .before .before .before .args .mode) (c .before .before .before .before .args .label .now) t) (c .before .sum .ensures .0) ∙ check-from (c .before .before .before .before .args .mode) (c .before .before .before .before .args .label .now) (c .before .before .before .before .args .body .now)
+    let start = c .before .before .before .before in
+    c .check-from .ensures ∙ ap (λ (t : ℕ). checkFrom (start .args .mode) (start .args .label .now) t)
+    (c .before .sum .ensures .0) ∙ check-from (start .args .mode) (start .args .label .now) (start .args .body .now)
 
 pub check-of-spec : {M : Type 1} → statement M
 check-of-spec = tie.close (tie.spec sum-requires check-from-requires returns)

@@ -17,7 +17,11 @@ refuse-requires c κs = search needs
 
 returns : tie.Need-returns
 returns c =
-    let g = c .before .before .before .before .before .before .args in c .refuse .ensures ∙ ap shown (sym (fields-short (g .mode) (g .rule) (g .label .now) (g .body .now) (sym (c .before .before .before .is-stamped .ensures) ∙ c .before .before .if1 .taken) (c .before .if2 .taken)))
+    let at-is-stamped = c .before .before .before in
+    let start = at-is-stamped .before .before .before in
+    let g = start .args in
+    c .refuse .ensures ∙ ap shown (sym (fields-short (g .mode) (g .rule) (g .label .now) (g .body .now) (sym
+    (at-is-stamped .is-stamped .ensures) ∙ c .before .before .if1 .taken) (c .before .if2 .taken)))
 
 shared-slice-read-if3 : tie.Need-shared-slice-read-if3
 shared-slice-read-if3 c = search needs
@@ -30,7 +34,14 @@ refuse-requires-2 c κs = search needs
 
 returns-2 : tie.Need-returns-2
 returns-2 c =
-    let g = c .before .before .before .before .before .before .before .before .before .args in c .refuse2 .ensures ∙ ap shown (sym (fields-unparted (g .mode) (g .rule) (g .label .now) (g .body .now) (sym (c .before .before .before .before .before .before .is-stamped .ensures) ∙ c .before .before .before .before .before .if1 .taken) (c .before .before .before .before .if2 .left) (λ z. c .before .if3 .taken (z ∙ sym (c .before .before .separator-of .ensures)))))
+    let at-if2 = c .before .before .before .before in
+    let at-if1 = at-if2 .before in
+    let at-is-stamped = at-if1 .before in
+    let start = at-is-stamped .before .before .before in
+    let g = start .args in
+    c .refuse2 .ensures ∙ ap shown (sym (fields-unparted (g .mode) (g .rule) (g .label .now) (g .body .now) (sym
+    (at-is-stamped .is-stamped .ensures) ∙ at-if1 .if1 .taken) (at-if2 .if2 .left) (λ z. c .before .if3 .taken (z ∙
+    sym (c .before .before .separator-of .ensures)))))
 
 slice-aggregate-finish : tie.Need-slice-aggregate-finish
 slice-aggregate-finish c = simp length-take (omega arith)
@@ -49,7 +60,16 @@ finish-requires c κs = search needs
 
 returns-3 : tie.Need-returns-3
 returns-3 c =
-    let g = c .before .before .before .before .before .before .before .before .before .before .before .args in c .finish .ensures ∙ rw (to-end 14 (g .body .now)) (ap shown (sym (fields-stamped (g .mode) (g .rule) (g .label .now) (g .body .now) (sym (c .before .before .before .before .before .before .before .before .is-stamped .ensures) ∙ c .before .before .before .before .before .before .before .if1 .taken) (c .before .before .before .before .before .before .if2 .left) (c .before .before .before .if3 .left ∙ c .before .before .before .before .separator-of .ensures))))
+    let at-if3 = c .before .before .before in
+    let at-separator-of = at-if3 .before in
+    let at-if2 = at-separator-of .before .before in
+    let at-if1 = at-if2 .before in
+    let at-is-stamped = at-if1 .before in
+    let start = at-is-stamped .before .before .before in
+    let g = start .args in
+    c .finish .ensures ∙ rw (to-end 14 (g .body .now)) (ap shown (sym (fields-stamped (g .mode) (g .rule)
+    (g .label .now) (g .body .now) (sym (at-is-stamped .is-stamped .ensures) ∙ at-if1 .if1 .taken) (at-if2 .if2 .left)
+    (at-if3 .if3 .left ∙ at-separator-of .separator-of .ensures))))
 
 slice-aggregate-finish-2 : tie.Need-slice-aggregate-finish-2
 slice-aggregate-finish-2 c = search needs
@@ -59,7 +79,11 @@ finish-requires-2 c κs = search needs
 
 returns-4 : tie.Need-returns-4
 returns-4 c =
-    let g = c .before .before .before .before .before .before .args in c .finish2 .ensures ∙ ap shown (sym (fields-plain (g .mode) (g .rule) (g .label .now) (g .body .now) (sym (c .before .before .before .is-stamped .ensures) ∙ c .before .before .if1 .left)))
+    let at-is-stamped = c .before .before .before in
+    let start = at-is-stamped .before .before .before in
+    let g = start .args in
+    c .finish2 .ensures ∙ ap shown (sym (fields-plain (g .mode) (g .rule) (g .label .now) (g .body .now) (sym
+    (at-is-stamped .is-stamped .ensures) ∙ c .before .before .if1 .left)))
 
 pub fields-of-spec : {M : Type 1} → statement M
 fields-of-spec =

@@ -24,11 +24,19 @@ place-requires c κs = search needs
 
 returns : tie.Need-returns
 returns c =
-    let g = c .before .before .before .before .before .before .before .before .args in c .refuse .ensures ∙ ap shown (sym (fit-wrong (g .rule) (g .stamp .now) (g .«data» .now) _ _ _ (sym (c .before .before .before .before .fit .ensures) ∙ c .before .before .fitness .given .1)))
+    let at-fit = c .before .before .before .before in
+    let start = at-fit .before .before .before .before in
+    let g = start .args in
+    c .refuse .ensures ∙ ap shown (sym (fit-wrong (g .rule) (g .stamp .now) (g .«data» .now) _ _ _ (sym
+    (at-fit .fit .ensures) ∙ c .before .before .fitness .given .1)))
 
 returns-2 : tie.Need-returns-2
 returns-2 c =
-    let g = c .before .before .before .before .before .before .before .args in c .place .ensures ∙ ap shown (sym (checked-right (g .rule) (g .stamp .now) (g .«data» .now) _ (fit-right (g .rule) (g .stamp .now) (g .«data» .now) _ (sym (c .before .before .before .fit .ensures) ∙ c .before .enum-told .given .1))))
+    let at-fit = c .before .before .before in
+    let start = at-fit .before .before .before .before in
+    let g = start .args in
+    c .place .ensures ∙ ap shown (sym (checked-right (g .rule) (g .stamp .now) (g .«data» .now) _ (fit-right (g .rule)
+    (g .stamp .now) (g .«data» .now) _ (sym (at-fit .fit .ensures) ∙ c .before .enum-told .given .1))))
 
 pub finish-spec : {M : Type 1} → statement M
 finish-spec =

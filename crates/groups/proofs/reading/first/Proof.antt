@@ -23,7 +23,14 @@ shared-slice-read-if1 c = search needs
 
 returns : tie.Need-returns Inv-loop μ-loop
 returns c =
-    let l = c .before .before .before .loop in omega (arith, l .inv .1, first-here (c .before .before .before .before .args .code) (c .before .before .before .before .args .text .now) (l .i) (omega arith) (c .if1 .taken))
+    let at-loop = c .before .before .before in
+    let start = at-loop .before in
+    let l = at-loop .loop in
+    omega (
+      arith,
+      l .inv .1,
+      first-here (start .args .code) (start .args .text .now) (l .i) (omega arith) (c .if1 .taken),
+    )
 
 add-i : tie.Need-add-i Inv-loop μ-loop
 add-i c = search needs
@@ -33,11 +40,26 @@ loop-less c = search needs
 
 loop-again : tie.Need-loop-again Inv-loop μ-loop
 loop-again c =
-    let l = c .before .before .before .loop in (omega arith, omega (arith, l .inv .1, first-on (c .before .before .before .before .args .code) (c .before .before .before .before .args .text .now) (l .i) (omega arith) (c .if1 .left)))
+    let at-loop = c .before .before .before in
+    let start = at-loop .before in
+    let l = at-loop .loop in (
+      omega arith,
+      omega (
+        arith,
+        l .inv .1,
+        first-on (start .args .code) (start .args .text .now) (l .i) (omega arith)
+            (c .if1 .left),
+      ),
+    )
 
 returns-2 : tie.Need-returns-2 Inv-loop μ-loop
 returns-2 c =
-    let l = c .before .loop in omega (arith, l .inv .1, first-over (c .before .before .args .code) (c .before .before .args .text .now) (l .i) (omega arith))
+    let l = c .before .loop in
+    omega (
+      arith,
+      l .inv .1,
+      first-over (c .before .before .args .code) (c .before .before .args .text .now) (l .i) (omega arith),
+    )
 
 pub first-spec : {M : Type 1} → statement M
 first-spec =

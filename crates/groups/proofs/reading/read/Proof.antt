@@ -16,7 +16,9 @@ refuse-requires c κs = search needs
 
 returns : tie.Need-returns
 returns c =
-    let g = c .before .before .before .args in c .refuse .ensures ∙ ap shown (sym (read-long (g .mode) (g .content .now) (c .before .if1 .taken)))
+    let start = c .before .before .before in
+    let g = start .args in
+    c .refuse .ensures ∙ ap shown (sym (read-long (g .mode) (g .content .now) (c .before .if1 .taken)))
 
 separator-of-requires : tie.Need-separator-of-requires
 separator-of-requires c κs = search needs
@@ -29,14 +31,27 @@ refuse-requires-2 c κs = search needs
 
 returns-2 : tie.Need-returns-2
 returns-2 c =
-    let g = c .before .before .before .before .before .before .args in c .refuse2 .ensures ∙ ap shown (sym (read-uncut (g .mode) (g .content .now) _ (c .before .before .first .ensures ∙ ap (λ (s : ℕ). firstAt s (g .content .now)) (c .before .before .before .separator-of .ensures)) (c .before .before .before .before .if1 .left) (c .before .if2 .taken)))
+    let at-separator-of = c .before .before .before in
+    let at-if1 = at-separator-of .before in
+    let start = at-if1 .before .before in
+    let g = start .args in
+    c .refuse2 .ensures ∙ ap shown (sym (read-uncut (g .mode) (g .content .now) _ (c .before .before .first .ensures ∙
+    ap (λ (s : ℕ). firstAt s (g .content .now)) (at-separator-of .separator-of .ensures)) (at-if1 .if1 .left)
+    (c .before .if2 .taken)))
 
 refuse-requires-3 : tie.Need-refuse-requires-3
 refuse-requires-3 c κs = search needs
 
 returns-3 : tie.Need-returns-3
 returns-3 c =
-    let g = c .before .before .before .before .before .before .before .args in c .refuse3 .ensures ∙ ap shown (sym (read-unlabelled (g .mode) (g .content .now) _ (c .before .before .before .first .ensures ∙ ap (λ (s : ℕ). firstAt s (g .content .now)) (c .before .before .before .before .separator-of .ensures)) (c .before .before .before .before .before .if1 .left) (c .before .before .if2 .left) (c .before .if3 .taken)))
+    let at-first = c .before .before .before in
+    let at-separator-of = at-first .before in
+    let at-if1 = at-separator-of .before in
+    let start = at-if1 .before .before in
+    let g = start .args in
+    c .refuse3 .ensures ∙ ap shown (sym (read-unlabelled (g .mode) (g .content .now) _ (at-first .first .ensures ∙ ap
+    (λ (s : ℕ). firstAt s (g .content .now)) (at-separator-of .separator-of .ensures)) (at-if1 .if1 .left)
+    (c .before .before .if2 .left) (c .before .if3 .taken)))
 
 add-next : tie.Need-add-next
 add-next c = search needs
@@ -55,11 +70,25 @@ part-behind-label-end c = search needs
 
 behind-label-requires : tie.Need-behind-label-requires
 behind-label-requires c κs =
-    (simp length-take (omega arith), rw (to-end (c .before .before .before .before .first .result + 1) (c .before .before .before .before .before .before .before .before .args .content .now)) (simp length-drop (omega arith)))
+    let at-first = c .before .before .before .before in
+    let start = at-first .before .before .before .before in (
+      simp length-take (omega arith),
+      rw (to-end (at-first .first .result + 1) (start .args .content .now)) (simp
+          length-drop (omega arith)),
+    )
 
 returns-4 : tie.Need-returns-4
 returns-4 c =
-    let g = c .before .before .before .before .before .before .before .before .before .args in c .behind-label .ensures ∙ rw (to-end (c .before .before .before .before .before .first .result + 1) (g .content .now)) (ap shown (sym (read-cut (g .mode) (g .content .now) _ (c .before .before .before .before .before .first .ensures ∙ ap (λ (s : ℕ). firstAt s (g .content .now)) (c .before .before .before .before .before .before .separator-of .ensures)) (c .before .before .before .before .before .before .before .if1 .left) (c .before .before .before .before .if2 .left) (c .before .before .before .if3 .left))))
+    let at-if3 = c .before .before .before in
+    let at-if2 = at-if3 .before in
+    let at-first = at-if2 .before in
+    let at-separator-of = at-first .before in
+    let at-if1 = at-separator-of .before in
+    let start = at-if1 .before .before in
+    let g = start .args in
+    c .behind-label .ensures ∙ rw (to-end (at-first .first .result + 1) (g .content .now)) (ap shown (sym (read-cut
+    (g .mode) (g .content .now) _ (at-first .first .ensures ∙ ap (λ (s : ℕ). firstAt s (g .content .now))
+    (at-separator-of .separator-of .ensures)) (at-if1 .if1 .left) (at-if2 .if2 .left) (at-if3 .if3 .left))))
 
 pub read-spec : {M : Type 1} → statement M
 read-spec =

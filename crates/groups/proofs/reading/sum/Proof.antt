@@ -25,7 +25,9 @@ cast-sum : tie.Need-cast-sum Inv-loop μ-loop
 cast-sum c = omega (arith, c .shared-slice-known .given (c .before .before .loop .i))
 
 add-sum : tie.Need-add-sum Inv-loop μ-loop
-add-sum c = omega (arith, c .before .before .before .pre, c .shared-slice-known .given (c .before .before .loop .i))
+add-sum c =
+    let start = c .before .before .before in
+    omega (arith, start .pre, c .shared-slice-known .given (c .before .before .loop .i))
 
 add-i : tie.Need-add-i Inv-loop μ-loop
 add-i c = omega arith
@@ -35,11 +37,27 @@ loop-less c = omega arith
 
 loop-again : tie.Need-loop-again Inv-loop μ-loop
 loop-again c =
-    let l = c .before .before .loop in (omega arith, omega (arith, l .inv .1, total-on (c .before .before .before .args .text .now) (l .i) (omega arith)), omega (arith, l .inv .2, c .shared-slice-known .given (l .i)))
+    let start = c .before .before .before in
+    let l = c .before .before .loop in (
+      omega arith,
+      omega (arith, l .inv .1, total-on (start .args .text .now) (l .i) (omega arith)),
+      omega (
+        arith,
+        l .inv .2,
+        c .shared-slice-known .given (l .i),
+      ),
+    )
 
 returns : tie.Need-returns Inv-loop μ-loop
 returns c =
-    let l = c .before .loop in (omega (arith, l .inv .1, total-over (c .before .before .args .text .now) (l .i) (omega arith)), omega (arith, c .before .before .pre, l .inv .2))
+    let l = c .before .loop in (
+      omega (arith, l .inv .1, total-over (c .before .before .args .text .now) (l .i) (omega arith)),
+      omega (
+        arith,
+        c .before .before .pre,
+        l .inv .2,
+      ),
+    )
 
 pub sum-spec : {M : Type 1} → statement M
 sum-spec =

@@ -60,7 +60,34 @@ lies-within-requires-5 c κs = search needs
 returns : tie.Need-returns
 unfolding dateRight
 returns c =
-    rw (c .lies-within5 .ensures, c .before .two-digits6 .ensures .0, c .before .before .lies-within4 .ensures, c .before .before .before .two-digits5 .ensures .0, c .before .before .before .before .lies-within3 .ensures, c .before .before .before .before .before .two-digits4 .ensures .0, c .before .before .before .before .before .before .lies-within2 .ensures, c .before .before .before .before .before .before .before .two-digits3 .ensures .0, c .before .before .before .before .before .before .before .before .lies-within .ensures, c .before .before .before .before .before .before .before .before .before .wrong-at .ensures, to-end 1 (c .before .before .before .before .before .before .before .before .before .before .before .before .before .before .before .args .stamp .now), wrong-none (ofKind Digits) (drop 1 (c .before .before .before .before .before .before .before .before .before .before .before .before .before .before .before .args .stamp .now)) 12 (simp length-drop (omega arith)), c .before .before .before .before .before .before .before .before .before .before .before .days-in .ensures, c .before .before .before .before .before .before .before .before .before .before .before .before .two-digits2 .ensures .0, c .before .before .before .before .before .before .before .before .before .before .before .before .before .two-digits .ensures .0)
+    let at-two-digits5 = c .before .before .before in
+    let at-lies-within3 = at-two-digits5 .before in
+    let at-two-digits4 = at-lies-within3 .before in
+    let at-lies-within2 = at-two-digits4 .before in
+    let at-two-digits3 = at-lies-within2 .before in
+    let at-lies-within = at-two-digits3 .before in
+    let at-wrong-at = at-lies-within .before in
+    let at-days-in = at-wrong-at .before .before in
+    let at-two-digits2 = at-days-in .before in
+    let at-two-digits = at-two-digits2 .before in
+    let start = at-two-digits .before .before in
+    rw (
+      c .lies-within5 .ensures,
+      c .before .two-digits6 .ensures .0,
+      c .before .before .lies-within4 .ensures,
+      at-two-digits5 .two-digits5 .ensures .0,
+      at-lies-within3 .lies-within3 .ensures,
+      at-two-digits4 .two-digits4 .ensures .0,
+      at-lies-within2 .lies-within2 .ensures,
+      at-two-digits3 .two-digits3 .ensures .0,
+      at-lies-within .lies-within .ensures,
+      at-wrong-at .wrong-at .ensures,
+      to-end 1 (start .args .stamp .now),
+      wrong-none (ofKind Digits) (drop 1 (start .args .stamp .now)) 12 (simp length-drop (omega arith)),
+      at-days-in .days-in .ensures,
+      at-two-digits2 .two-digits2 .ensures .0,
+      at-two-digits .two-digits .ensures .0,
+    )
 
 pub date-right-spec : {M : Type 1} → statement M
 date-right-spec =

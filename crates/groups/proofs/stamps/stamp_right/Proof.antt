@@ -25,7 +25,15 @@ date-right-requires c κs = search needs
 returns-2 : tie.Need-returns-2
 unfolding stampAs
 returns-2 c =
-    rw (sym (c .before .before .before .before .before .is-stamped .ensures) ∙ c .before .before .before .before .if1 .taken, eq-eqb _ _ (c .before .before .before .if2 .left), c .before .season-right .ensures, c .date-right .ensures)
+    let at-if2 = c .before .before .before in
+    let at-if1 = at-if2 .before in
+    let at-is-stamped = at-if1 .before in
+    rw (
+      sym (at-is-stamped .is-stamped .ensures) ∙ at-if1 .if1 .taken,
+      eq-eqb _ _ (at-if2 .if2 .left),
+      c .before .season-right .ensures,
+      c .date-right .ensures,
+    )
 
 returns-3 : tie.Need-returns-3
 unfolding stampAs

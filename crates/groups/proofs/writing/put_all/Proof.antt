@@ -13,14 +13,19 @@ use Rattle.groups.proofs.writing.put_all.Tie as tie
 
 abbrev Inv-loop : tie.InvT-loop
 Inv-loop buffer₀ at text i₀ buffer i =
-    (i ≤ length text) × (length buffer ≡ length buffer₀) × (sets buffer₀ at (map wireByteOf text) ≡ sets buffer (at + i) (map wireByteOf (drop i text)))
+    (i ≤ length text) × (length buffer ≡ length buffer₀) × (sets buffer₀ at (map wireByteOf text) ≡ sets buffer (at +
+    i) (map wireByteOf (drop i text)))
 
 abbrev μ-loop : tie.MeasureT-loop
 μ-loop buffer₀ at text i₀ buffer i = length text - i
 
 loop-holds : tie.Need-loop-holds Inv-loop μ-loop
-loop-holds c =
-    (search needs, refl, sets-start (c .before .before .args .buffer .now) (c .before .before .args .at) (c .before .before .args .text .now))
+loop-holds c = (
+  search needs,
+  refl,
+  sets-start (c .before .before .args .buffer .now) (c .before .before .args .at)
+      (c .before .before .args .text .now),
+)
 
 shared-slice-read-wire-byte : tie.Need-shared-slice-read-wire-byte Inv-loop μ-loop
 shared-slice-read-wire-byte c = search needs
@@ -42,7 +47,14 @@ loop-less c = search needs
 
 loop-again : tie.Need-loop-again Inv-loop μ-loop
 loop-again c =
-    let l = c .before .before .before .loop in (omega arith, simp length-set (l .inv .1), rw (c .wire-byte .ensures) (l .inv .2 ∙ sets-on (l .buffer) (c .before .before .before .before .before .before .args .at) (l .i) (c .before .before .before .before .before .before .args .text .now) (omega arith)))
+    let at-loop = c .before .before .before in
+    let start = at-loop .before .before .before in
+    let l = at-loop .loop in (
+      omega arith,
+      simp length-set (l .inv .1),
+      rw (c .wire-byte .ensures) (l .inv .2 ∙ sets-on (l .buffer)
+          (start .args .at) (l .i) (start .args .text .now) (omega arith)),
+    )
 
 add-result : tie.Need-add-result Inv-loop μ-loop
 add-result c = search needs
@@ -52,7 +64,13 @@ same-length c = search needs
 
 returns : tie.Need-returns Inv-loop μ-loop
 returns c =
-    let l = c .before .loop in record { upto = simp length-map (omega arith); bytes = sym (l .inv .2 ∙ sets-over (l .buffer) (c .before .before .before .before .args .at) (l .i) (c .before .before .before .before .args .text .now) (omega arith)) }
+    let start = c .before .before .before .before in
+    let l = c .before .loop in
+    record {
+      upto = simp length-map (omega arith);
+      bytes = sym (l .inv .2 ∙ sets-over (l .buffer) (start .args .at)
+          (l .i) (start .args .text .now) (omega arith));
+    }
 
 pub put-all-spec : {M : Type 1} → statement M
 put-all-spec =

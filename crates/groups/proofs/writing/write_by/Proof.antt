@@ -22,14 +22,26 @@ enum-told c = search needs
 
 write-right-requires : tie.Need-write-right-requires
 write-right-requires c κs =
-    let g = c .before .before .before .before .before .before .before .before .args in (c .before .before .before .before .before .before .before .before .pre, fit-right (g .rule) (g .stamp .now) (g .«data» .now) _ (sym (c .before .before .before .fit .ensures) ∙ c .before .enum-told .given .1))
+    let at-fit = c .before .before .before in
+    let start = at-fit .before .before .before .before .before in
+    let g = start .args in (
+      start .pre,
+      fit-right (g .rule) (g .stamp .now) (g .«data» .now) _ (sym (at-fit .fit .ensures) ∙
+          c .before .enum-told .given .1),
+    )
 
 same-length : tie.Need-same-length
 same-length c = search needs
 
 returns : tie.Need-returns
 returns c =
-    let g = c .before .before .before .before .before .before .before .before .before .before .before .before .args in wrote-as (g .buffer .now) _ _ (write-wrong (g .mode) (groupOf (g .label .now) (g .stamp .now) (g .«data» .now)) (length (g .buffer .now)) (g .rule) _ (λ a. fit-wrong (g .rule) (g .stamp .now) (g .«data» .now) _ a _ (sym (c .before .before .before .before .before .before .before .fit .ensures) ∙ c .before .before .before .before .before .fitness .given .1))) (c .before .before .stop .ensures)
+    let at-fitness = c .before .before .before .before .before in
+    let at-fit = at-fitness .before .before in
+    let start = at-fit .before .before .before .before .before in
+    let g = start .args in
+    wrote-as (g .buffer .now) _ _ (write-wrong (g .mode) (groupOf (g .label .now) (g .stamp .now) (g .«data» .now))
+    (length (g .buffer .now)) (g .rule) _ (λ a. fit-wrong (g .rule) (g .stamp .now) (g .«data» .now) _ a _ (sym
+    (at-fit .fit .ensures) ∙ at-fitness .fitness .given .1))) (c .before .before .stop .ensures)
 
 same-length-2 : tie.Need-same-length-2
 same-length-2 c = search needs

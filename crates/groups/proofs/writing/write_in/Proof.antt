@@ -16,7 +16,11 @@ enum-known-found c = search needs
 
 write-by-requires : tie.Need-write-by-requires
 write-by-requires c κs =
-    let g = c .before .before .before .before .before .before .before .before .before .args in listed-short (g .mode) (g .label .now) _ (found-some _ _ (sym (c .before .before .before .before .find .ensures) ∙ c .before .before .found .given .1))
+    let at-find = c .before .before .before .before in
+    let start = at-find .before .before .before .before .before in
+    let g = start .args in
+    listed-short (g .mode) (g .label .now) _ (found-some _ _ (sym (at-find .find .ensures) ∙
+    c .before .before .found .given .1))
 
 enum-told : tie.Need-enum-told
 enum-told c = search needs
@@ -29,14 +33,26 @@ same-length c = search needs
 
 returns : tie.Need-returns
 returns c =
-    let g = c .before .before .before .before .before .before .before .before .before .before .before .before .args in wrote-as (g .buffer .now) _ _ (write-listed (g .mode) (groupOf (g .label .now) (g .stamp .now) (g .«data» .now)) (length (g .buffer .now)) _ (found-some _ _ (sym (c .before .before .before .before .before .before .before .find .ensures) ∙ c .before .before .before .before .before .found .given .1))) (c .before .before .write-by .ensures)
+    let at-found = c .before .before .before .before .before in
+    let at-find = at-found .before .before in
+    let start = at-find .before .before .before .before .before in
+    let g = start .args in
+    wrote-as (g .buffer .now) _ _ (write-listed (g .mode) (groupOf (g .label .now) (g .stamp .now) (g .«data» .now))
+    (length (g .buffer .now)) _ (found-some _ _ (sym (at-find .find .ensures) ∙ at-found .found .given .1)))
+    (c .before .before .write-by .ensures)
 
 same-length-2 : tie.Need-same-length-2
 same-length-2 c = search needs
 
 returns-2 : tie.Need-returns-2
 returns-2 c =
-    let g = c .before .before .before .before .before .before .before .before .before .before .before .args in wrote-as (g .buffer .now) _ _ (write-unlisted (g .mode) (groupOf (g .label .now) (g .stamp .now) (g .«data» .now)) (length (g .buffer .now)) (found-none _ (sym (c .before .before .before .before .before .before .find .ensures) ∙ c .before .before .before .before .enum-told .given .1))) (c .before .before .stop .ensures)
+    let at-enum-told = c .before .before .before .before in
+    let at-find = at-enum-told .before .before in
+    let start = at-find .before .before .before .before .before in
+    let g = start .args in
+    wrote-as (g .buffer .now) _ _ (write-unlisted (g .mode) (groupOf (g .label .now) (g .stamp .now) (g .«data» .now))
+    (length (g .buffer .now)) (found-none _ (sym (at-find .find .ensures) ∙ at-enum-told .enum-told .given .1)))
+    (c .before .before .stop .ensures)
 
 pub write-in-spec : {M : Type 1} → statement M
 write-in-spec =

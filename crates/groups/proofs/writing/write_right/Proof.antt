@@ -12,19 +12,35 @@ stamp-span-requires c κs = search needs
 
 add-size : tie.Need-add-size
 add-size c =
-    let g = c .before .before .before .before .before .args in let s = all-short (g .mode) (g .rule) (g .label .now) (g .stamp .now) (g .«data» .now) (c .before .before .before .before .before .pre .0) (c .before .before .before .before .before .pre .1) in omega (arith, s .short-label, s .short-data)
+    let start = c .before .before .before .before .before in
+    let g = start .args in
+    let s = all-short (g .mode) (g .rule) (g .label .now) (g .stamp .now) (g .«data» .now) (start .pre .0)
+    (start .pre .1) in
+    omega (arith, s .short-label, s .short-data)
 
 add-size-2 : tie.Need-add-size-2
 add-size-2 c =
-    let g = c .before .before .before .before .before .args in let s = all-short (g .mode) (g .rule) (g .label .now) (g .stamp .now) (g .«data» .now) (c .before .before .before .before .before .pre .0) (c .before .before .before .before .before .pre .1) in omega (arith, s .short-label, s .short-data, c .stamp-span .ensures .1)
+    let start = c .before .before .before .before .before in
+    let g = start .args in
+    let s = all-short (g .mode) (g .rule) (g .label .now) (g .stamp .now) (g .«data» .now) (start .pre .0)
+    (start .pre .1) in
+    omega (arith, s .short-label, s .short-data, c .stamp-span .ensures .1)
 
 add-size-3 : tie.Need-add-size-3
 add-size-3 c =
-    let g = c .before .before .before .before .before .args in let s = all-short (g .mode) (g .rule) (g .label .now) (g .stamp .now) (g .«data» .now) (c .before .before .before .before .before .pre .0) (c .before .before .before .before .before .pre .1) in omega (arith, s .short-label, s .short-data, c .stamp-span .ensures .1)
+    let start = c .before .before .before .before .before in
+    let g = start .args in
+    let s = all-short (g .mode) (g .rule) (g .label .now) (g .stamp .now) (g .«data» .now) (start .pre .0)
+    (start .pre .1) in
+    omega (arith, s .short-label, s .short-data, c .stamp-span .ensures .1)
 
 add-size-4 : tie.Need-add-size-4
 add-size-4 c =
-    let g = c .before .before .before .before .before .args in let s = all-short (g .mode) (g .rule) (g .label .now) (g .stamp .now) (g .«data» .now) (c .before .before .before .before .before .pre .0) (c .before .before .before .before .before .pre .1) in omega (arith, s .short-label, s .short-data, c .stamp-span .ensures .1)
+    let start = c .before .before .before .before .before in
+    let g = start .args in
+    let s = all-short (g .mode) (g .rule) (g .label .now) (g .stamp .now) (g .«data» .now) (start .pre .0)
+    (start .pre .1) in
+    omega (arith, s .short-label, s .short-data, c .stamp-span .ensures .1)
 
 stop-requires : tie.Need-stop-requires
 stop-requires c κs = search needs
@@ -34,18 +50,61 @@ same-length c = search needs
 
 returns : tie.Need-returns
 returns c =
-    let g = c .before .before .before .before .before .before .before .before .before .before .args in wrote-as (g .buffer .now) _ _ (write-tight (g .mode) (groupOf (g .label .now) (g .stamp .now) (g .«data» .now)) (length (g .buffer .now)) (g .rule) (c .before .before .before .before .before .before .before .before .before .before .pre .1) (omega (arith, wire-size (g .mode) (g .rule) (g .label .now) (g .stamp .now) (g .«data» .now) (c .before .before .before .before .before .before .before .before .before .before .pre .0) (c .before .before .before .before .before .before .before .before .before .before .pre .1), c .before .before .before .before .before .stamp-span .ensures .0, c .before .before .before .before .if1 .taken))) (c .before .before .stop .ensures)
+    let at-if1 = c .before .before .before .before in
+    let at-stamp-span = at-if1 .before in
+    let start = at-stamp-span .before .before .before .before .before in
+    let g = start .args in
+    wrote-as (g .buffer .now) _ _ (write-tight (g .mode) (groupOf (g .label .now) (g .stamp .now) (g .«data» .now))
+    (length (g .buffer .now)) (g .rule) (start .pre .1) (omega (
+      arith,
+      wire-size (g .mode) (g .rule) (g .label .now)
+          (g .stamp .now) (g .«data» .now) (start .pre .0) (start .pre .1),
+      at-stamp-span .stamp-span .ensures .0,
+      at-if1 .if1 .taken,
+    ))) (c .before .before .stop .ensures)
 
 put-group-requires : tie.Need-put-group-requires
 put-group-requires c κs =
-    let g = c .before .before .before .before .before .before .before .args in let s = all-short (g .mode) (g .rule) (g .label .now) (g .stamp .now) (g .«data» .now) (c .before .before .before .before .before .before .before .pre .0) (c .before .before .before .before .before .before .before .pre .1) in (s .short-label, s .short-stamp, s .short-data, omega (arith, body-size (g .mode) (g .rule) (g .label .now) (g .stamp .now) (g .«data» .now) (c .before .before .before .before .before .before .before .pre .0) (c .before .before .before .before .before .before .before .pre .1), c .before .before .stamp-span .ensures .0, c .before .if1 .left))
+    let start = c .before .before .before .before .before .before .before in
+    let g = start .args in
+    let s = all-short (g .mode) (g .rule) (g .label .now) (g .stamp .now) (g .«data» .now) (start .pre .0)
+    (start .pre .1) in (
+      s .short-label,
+      s .short-stamp,
+      s .short-data,
+      omega (
+        arith,
+        body-size (g .mode) (g .rule) (g .label .now)
+            (g .stamp .now) (g .«data» .now) (start .pre .0) (start .pre .1),
+        c .before .before .stamp-span .ensures .0,
+        c .before .if1 .left,
+      ),
+    )
 
 same-length-2 : tie.Need-same-length-2
 same-length-2 c = search needs
 
 returns-2 : tie.Need-returns-2
 returns-2 c =
-    let g = c .before .before .before .before .before .before .before .before .before .before .args in wrote-laid (g .buffer .now) _ _ (write-done (g .mode) (groupOf (g .label .now) (g .stamp .now) (g .«data» .now)) (length (g .buffer .now)) (g .rule) (c .before .before .before .before .before .before .before .before .before .before .pre .1) (omega (arith, wire-size (g .mode) (g .rule) (g .label .now) (g .stamp .now) (g .«data» .now) (c .before .before .before .before .before .before .before .before .before .before .pre .0) (c .before .before .before .before .before .before .before .before .before .before .pre .1), c .before .before .before .before .before .stamp-span .ensures .0, c .before .before .before .before .if1 .left))) (omega (arith, wire-size (g .mode) (g .rule) (g .label .now) (g .stamp .now) (g .«data» .now) (c .before .before .before .before .before .before .before .before .before .before .pre .0) (c .before .before .before .before .before .before .before .before .before .before .pre .1), c .before .before .before .before .before .stamp-span .ensures .0, c .before .before .before .before .if1 .left)) (c .before .before .put-group .ensures)
+    let at-if1 = c .before .before .before .before in
+    let at-stamp-span = at-if1 .before in
+    let start = at-stamp-span .before .before .before .before .before in
+    let g = start .args in
+    wrote-laid (g .buffer .now) _ _ (write-done (g .mode) (groupOf (g .label .now) (g .stamp .now) (g .«data» .now))
+    (length (g .buffer .now)) (g .rule) (start .pre .1) (omega (
+      arith,
+      wire-size (g .mode) (g .rule) (g .label .now)
+          (g .stamp .now) (g .«data» .now) (start .pre .0) (start .pre .1),
+      at-stamp-span .stamp-span .ensures .0,
+      at-if1 .if1 .left,
+    ))) (omega (
+      arith,
+      wire-size (g .mode) (g .rule) (g .label .now) (g .stamp .now) (g .«data» .now)
+          (start .pre .0) (start .pre .1),
+      at-stamp-span .stamp-span .ensures .0,
+      at-if1 .if1 .left,
+    ))
+    (c .before .before .put-group .ensures)
 
 pub write-right-spec : {M : Type 1} → statement M
 write-right-spec =

@@ -17,11 +17,15 @@ unfolding heardOf pick
 returns-2 c = rw (c .before .if1 .left, c .if2 .taken)
 
 array-share-prefix-content : tie.Need-array-share-prefix-content
-array-share-prefix-content c = let h : length (c .before .before .args .t4) ≡ 128 = search needs in omega arith
+array-share-prefix-content c =
+    let h : length (c .before .before .args .t4) ≡ 128 = search needs in
+    omega arith
 
 slice-aggregate-judge : tie.Need-slice-aggregate-judge
 slice-aggregate-judge c =
-    let h : length (c .before .before .before .args .t4) ≡ 128 = search needs in simp length-take (omega arith)
+    let start = c .before .before .before in
+    let h : length (start .args .t4) ≡ 128 = search needs in
+    simp length-take (omega arith)
 
 judge-requires : tie.Need-judge-requires
 judge-requires c κs = search needs
@@ -35,12 +39,18 @@ enum-known-verdict c = search needs
 returns-3 : tie.Need-returns-3
 unfolding heardOf pick
 returns-3 c =
-    rw (c .before .before .before .before .before .before .before .before .if1 .left, c .before .before .before .before .before .before .before .if2 .left, ← (c .before .before .before .before .before .judge .ensures), c .enum-told .given .1)
+    let at-judge = c .before .before .before .before .before in
+    let at-if2 = at-judge .before .before in
+    let at-if1 = at-if2 .before in
+    rw (at-if1 .if1 .left, at-if2 .if2 .left, ← (at-judge .judge .ensures), c .enum-told .given .1)
 
 returns-4 : tie.Need-returns-4
 unfolding heardOf pick
 returns-4 c =
-    rw (c .before .before .before .before .before .before .before .before .before .if1 .left, c .before .before .before .before .before .before .before .before .if2 .left, ← (c .before .before .before .before .before .before .judge .ensures), c .before .verdict .given .1)
+    let at-judge = c .before .before .before .before .before .before in
+    let at-if2 = at-judge .before .before in
+    let at-if1 = at-if2 .before in
+    rw (at-if1 .if1 .left, at-if2 .if2 .left, ← (at-judge .judge .ensures), c .before .verdict .given .1)
 
 pub judged-spec : {M : Type 1} → statement M
 judged-spec =

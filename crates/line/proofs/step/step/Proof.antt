@@ -61,34 +61,81 @@ cast-judged c = search needs
 
 judged-requires : tie.Need-judged-requires
 judged-requires c κs =
-    omega (arith, held-most (c .before .before .before .before .before .before .before .before .args .line), c .before .before .before .before .before .before .before .held-in .ensures)
+    let at-held-in = c .before .before .before .before .before .before .before in
+    let start = at-held-in .before in
+    omega (arith, held-most (start .args .line), at-held-in .held-in .ensures)
 
 ended-requires : tie.Need-ended-requires
 ended-requires c κs = search needs
 
 returns : tie.Need-returns
 returns c =
-    does-quiet (c .before .before .before .before .before .before .before .before .args .line) (c .before .before .before .before .before .before .before .before .args .content .now) (c .before .before .before .before .before .before .before .before .args .byte) (c .before .before .before .before .before .before .phase-of .ensures) (c .before .before .before .before .before .symbol-of .ensures) (c .before .before .before .before .moved .ensures) (c .before .before .before .before .before .before .before .held-in .ensures) _ (c .before .before .does .given .1) (c .quiet .ensures)
+    let at-moved = c .before .before .before .before in
+    let at-symbol-of = at-moved .before in
+    let at-phase-of = at-symbol-of .before in
+    let at-held-in = at-phase-of .before in
+    let start = at-held-in .before in
+    does-quiet (start .args .line) (start .args .content .now) (start .args .byte) (at-phase-of .phase-of .ensures)
+    (at-symbol-of .symbol-of .ensures) (at-moved .moved .ensures) (at-held-in .held-in .ensures) _
+    (c .before .before .does .given .1) (c .quiet .ensures)
 
 returns-2 : tie.Need-returns-2
 returns-2 c =
-    does-opens (c .before .before .before .before .before .before .before .before .args .line) (c .before .before .before .before .before .before .before .before .args .content .now) (c .before .before .before .before .before .before .before .before .args .byte) (c .before .before .before .before .before .before .phase-of .ensures) (c .before .before .before .before .before .symbol-of .ensures) (c .before .before .before .before .moved .ensures) (c .before .before .before .before .before .before .before .held-in .ensures) _ (c .before .before .does2 .given .1) (c .quiet2 .ensures)
+    let at-moved = c .before .before .before .before in
+    let at-symbol-of = at-moved .before in
+    let at-phase-of = at-symbol-of .before in
+    let at-held-in = at-phase-of .before in
+    let start = at-held-in .before in
+    does-opens (start .args .line) (start .args .content .now) (start .args .byte) (at-phase-of .phase-of .ensures)
+    (at-symbol-of .symbol-of .ensures) (at-moved .moved .ensures) (at-held-in .held-in .ensures) _
+    (c .before .before .does2 .given .1) (c .quiet2 .ensures)
 
 returns-3 : tie.Need-returns-3
 returns-3 c =
-    does-says (c .before .before .before .before .before .before .before .before .args .line) (c .before .before .before .before .before .before .before .before .args .content .now) (c .before .before .before .before .before .before .before .before .args .byte) (c .before .before .before .before .before .before .phase-of .ensures) (c .before .before .before .before .before .symbol-of .ensures) (c .before .before .before .before .moved .ensures) (c .before .before .before .before .before .before .before .held-in .ensures) _ _ (c .before .before .does3 .given .1) (c .state-of .ensures)
+    let at-moved = c .before .before .before .before in
+    let at-symbol-of = at-moved .before in
+    let at-phase-of = at-symbol-of .before in
+    let at-held-in = at-phase-of .before in
+    let start = at-held-in .before in
+    does-says (start .args .line) (start .args .content .now) (start .args .byte) (at-phase-of .phase-of .ensures)
+    (at-symbol-of .symbol-of .ensures) (at-moved .moved .ensures) (at-held-in .held-in .ensures) _ _
+    (c .before .before .does3 .given .1) (c .state-of .ensures)
 
 returns-4 : tie.Need-returns-4
 returns-4 c =
-    does-adds (c .before .before .before .before .before .before .before .before .before .args .line) (c .before .before .before .before .before .before .before .before .before .args .content .now) (c .before .before .before .before .before .before .before .before .before .args .byte) (c .before .before .before .before .before .before .before .phase-of .ensures) (c .before .before .before .before .before .before .symbol-of .ensures) (c .before .before .before .before .before .moved .ensures) (c .before .before .before .before .before .before .before .before .held-in .ensures) _ _ _ _ (c .before .before .before .does4 .given .1) (c .before .if1 .taken) (c .quiet3 .ensures)
+    let at-does4 = c .before .before .before in
+    let at-moved = at-does4 .before .before in
+    let at-symbol-of = at-moved .before in
+    let at-phase-of = at-symbol-of .before in
+    let at-held-in = at-phase-of .before in
+    let start = at-held-in .before in
+    does-adds (start .args .line) (start .args .content .now) (start .args .byte) (at-phase-of .phase-of .ensures)
+    (at-symbol-of .symbol-of .ensures) (at-moved .moved .ensures) (at-held-in .held-in .ensures) _ _ _ _
+    (at-does4 .does4 .given .1) (c .before .if1 .taken) (c .quiet3 .ensures)
 
 returns-5 : tie.Need-returns-5
 returns-5 c =
-    does-not-add (c .before .before .before .before .before .before .before .before .before .args .line) (c .before .before .before .before .before .before .before .before .before .args .content .now) (c .before .before .before .before .before .before .before .before .before .args .byte) (c .before .before .before .before .before .before .before .phase-of .ensures) (c .before .before .before .before .before .before .symbol-of .ensures) (c .before .before .before .before .before .moved .ensures) (c .before .before .before .before .before .before .before .before .held-in .ensures) _ _ _ _ (c .before .before .before .does4 .given .1) (c .before .if1 .left) (c .quiet4 .ensures)
+    let at-does4 = c .before .before .before in
+    let at-moved = at-does4 .before .before in
+    let at-symbol-of = at-moved .before in
+    let at-phase-of = at-symbol-of .before in
+    let at-held-in = at-phase-of .before in
+    let start = at-held-in .before in
+    does-not-add (start .args .line) (start .args .content .now) (start .args .byte) (at-phase-of .phase-of .ensures)
+    (at-symbol-of .symbol-of .ensures) (at-moved .moved .ensures) (at-held-in .held-in .ensures) _ _ _ _
+    (at-does4 .does4 .given .1) (c .before .if1 .left) (c .quiet4 .ensures)
 
 returns-6 : tie.Need-returns-6
 returns-6 c =
-    does-judge (c .before .before .before .before .before .before .before .before .before .before .args .line) (c .before .before .before .before .before .before .before .before .before .before .args .content .now) (c .before .before .before .before .before .before .before .before .before .before .args .byte) (c .before .before .before .before .before .before .before .before .phase-of .ensures) (c .before .before .before .before .before .before .before .symbol-of .ensures) (c .before .before .before .before .before .before .moved .ensures) (c .before .before .before .before .before .before .before .before .before .held-in .ensures) _ _ _ (c .before .before .before .before .does5 .given .1) (c .before .judged .ensures) (c .ended .ensures)
+    let at-does5 = c .before .before .before .before in
+    let at-moved = at-does5 .before .before in
+    let at-symbol-of = at-moved .before in
+    let at-phase-of = at-symbol-of .before in
+    let at-held-in = at-phase-of .before in
+    let start = at-held-in .before in
+    does-judge (start .args .line) (start .args .content .now) (start .args .byte) (at-phase-of .phase-of .ensures)
+    (at-symbol-of .symbol-of .ensures) (at-moved .moved .ensures) (at-held-in .held-in .ensures) _ _ _
+    (at-does5 .does5 .given .1) (c .before .judged .ensures) (c .ended .ensures)
 
 pub step-spec : {M : Type 1} → statement M
 step-spec =
