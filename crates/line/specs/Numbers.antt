@@ -14,6 +14,8 @@ use Rattle.line.specs.declared.Notice.the-variants.{
   GroupDamaged,
   GroupRefused,
 }
+use Rattle.line.specs.declared.Opening.{Opening}
+use Rattle.line.specs.declared.Opening.the-variants.{Opened, ModeUnknown}
 use Rattle.line.specs.declared.Heard.{Heard}
 use Rattle.line.specs.declared.Heard.the-variants.{Nothing, Accepted, Told}
 
@@ -36,3 +38,8 @@ abbrev pub numberOf : Heard → ℕ
 numberOf Nothing = 0
 numberOf (Accepted fields) = 1
 numberOf (Told notice) = numberOfNotice notice
+
+-- "0: an opening .. that is not refused"; "19: mode not 0 or 1"
+abbrev pub numberOfOpening : Opening → ℕ
+numberOfOpening (Opened l) = 0
+numberOfOpening ModeUnknown = 19

@@ -7,7 +7,7 @@ use mathlib.Core.List.{List, [], _∷_, _++_}
 use Prim.Native.Nat.{ℕ}
 use lib.Dec.{T}
 use lib.ListN.{length}
-use Rattle.characters.specs.Answers.{given, refused, every}
+use Rattle.characters.specs.Answers.{given, refused, every, pick}
 use Rattle.characters.specs.Wire.{isSound}
 use Rattle.groups.specs.Kinds.{within}
 use Rattle.groups.specs.Modes.{isMode}
@@ -16,15 +16,15 @@ use Rattle.groups.specs.Writing.{writing}
 use Rattle.line.specs.Symbols.{symbolOf}
 use Rattle.line.specs.Lines.{State, isRefused, step, after, answers, inFrame}
 use Rattle.line.specs.Between.{noControl, noStx, groupAnswer, SoundFrame}
-use Rattle.line.specs.Numbers.{numberOfAnswer}
-use Rattle.line.specs.State.{lineOf}
+use Rattle.line.specs.Numbers.{numberOfAnswer, numberOfOpening}
+use Rattle.line.specs.State.{lineOf, openingOf}
 use Rattle.line.specs.Steps.{fed}
 use Rattle.line.specs.Views.{FedView, fed-view}
 use Rattle.line.specs.Laws.Bytes.{after-append, answers-append, unsound-damaged}
 use Rattle.line.specs.Laws.Groups.{group-answered, group-ends}
 use Rattle.line.specs.Laws.Written.{written-sent}
 use Rattle.line.specs.Laws.Frames.{stx-restarts, frame-sound}
-use Rattle.line.specs.Laws.Numbers.{all-numbered}
+use Rattle.line.specs.Laws.Numbers.{all-numbered, opening-numbered}
 use Rattle.line.specs.declared.LineState.{LineState}
 use Rattle.line.specs.declared.Notice.the-variants.{FrameSound}
 use Rattle.line.specs.declared.rules.Symbol.the-variants.{Stx, Etx, Lf, Cr, Damaged}
@@ -50,6 +50,10 @@ group-in-frame mode flaw lf cr bs l r i =
 pub written-in-frame : (mode : ℕ) (flaw : Bool) (g : Group) (room : ℕ) (w : List ℕ) → writing mode g room ≡ given w
     → (answers mode (inFrame flaw) w ≡ given g ∷ []) × (after mode (inFrame flaw) w ≡ inFrame flaw)
 written-in-frame = written-sent
+
+-- An opening is 0 exactly for a known mode, and 19 for every other number.
+pub opening-number : (mode : ℕ) → numberOfOpening (openingOf mode) ≡ pick (isMode mode) 0 19
+opening-number = opening-numbered
 
 -- On a line of a known mode, wherever it is and whatever bytes come, every answer has a number of 1 to 14.
 pub answer-numbers : (mode : ℕ) → isMode mode ≡ true → (s : State) (bs : List ℕ)

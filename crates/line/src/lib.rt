@@ -9,7 +9,7 @@ mod step;
 use groups::Refusal;
 use groups::Stretch;
 ghost use mathlib.Core.Path.{_≡_};
-ghost use Rattle.line.specs.Numbers.{numberOf, numberOfNotice};
+ghost use Rattle.line.specs.Numbers.{numberOf, numberOfNotice, numberOfOpening};
 ghost use Rattle.line.specs.State.{openingOf};
 ghost use Rattle.line.specs.Steps.{Fed, fed};
 
@@ -124,6 +124,16 @@ pub fn number_of(heard: Heard) -> u8
         Heard::Nothing => 0,
         Heard::Accepted(_) => 1,
         Heard::Told(notice) => number_of_notice(notice),
+    }
+}
+
+// Document 01's number of an opening.
+pub fn number_of_opening(opening: Opening) -> u8
+    ensures { λ r. ⌜ r ≡ numberOfOpening opening ⌝ }
+{
+    match opening {
+        Opening::Opened(_) => 0,
+        Opening::ModeUnknown => 19,
     }
 }
 

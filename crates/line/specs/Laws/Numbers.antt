@@ -1,4 +1,4 @@
--- Every answer of a line has a number of 1 to 14.
+-- Every answer of a line has a number of 1 to 14, and an opening is 0 or 19.
 use mathlib.Core.Path.{_≡_, refl}
 use mathlib.Core.Bool.{Bool, true, false}
 use mathlib.Core.Option.{Option, none, some}
@@ -6,7 +6,7 @@ use mathlib.Core.List.{List, [], _∷_}
 use Prim.Native.Nat.{ℕ}
 use lib.Dec.{T}
 use mir.Facts.{yes-and}
-use Rattle.characters.specs.Answers.{Answer, refused, given, every, by-pick}
+use Rattle.characters.specs.Answers.{Answer, refused, given, every, pick, by-pick}
 use Rattle.groups.specs.Kinds.{within}
 use Rattle.groups.specs.Modes.{isMode}
 use Rattle.groups.specs.Groups.{Group}
@@ -16,7 +16,9 @@ use Rattle.groups.specs.Laws.ByNumber.{judged-number}
 use Rattle.groups.specs.declared.Refusal.{Refusal}
 use Rattle.line.specs.Rules.{move}
 use Rattle.line.specs.Lines.{LineAnswer, State, ofGroup, verdict, does, step, andThen, answers}
-use Rattle.line.specs.Numbers.{numberOfAnswer}
+use Rattle.line.specs.Numbers.{numberOfAnswer, numberOfOpening}
+use Rattle.line.specs.State.{stateOf, openingOf}
+use Rattle.line.specs.declared.Opening.the-variants.{Opened, ModeUnknown}
 use Rattle.line.specs.Symbols.{symbolOf}
 use Rattle.line.specs.Laws.Bytes.{step-at}
 use Rattle.line.specs.declared.rules.Symbol.{Symbol}
@@ -88,3 +90,13 @@ all-numbered mode k s (b ∷ bs) =
     then-numbered (step mode s b .answer) _
     (rw (step-at mode s b refl) (does-numbered mode k (s .content) (s .phase) (symbolOf b)))
     (all-numbered mode k (step mode s b .state) bs)
+
+-- an opening is 0 for a known mode, and 19 for any other number
+pub opening-numbered : (mode : ℕ) → numberOfOpening (openingOf mode) ≡ pick (isMode mode) 0 19
+unfolding openingOf pick
+opening-numbered mode = go (isMode mode)
+  where
+    go : (known : Bool)
+        → numberOfOpening (pick known (Opened (stateOf mode Outside 0)) ModeUnknown) ≡ pick known 0 19
+    go true = refl
+    go false = refl
