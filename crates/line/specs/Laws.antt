@@ -4,3 +4,7 @@ pub mod Groups
 pub mod Written
 pub mod Frames
 pub mod Numbers
+pub mod Until
+pub mod Openings
+pub mod Heard
+pub mod Accepted

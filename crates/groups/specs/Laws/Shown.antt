@@ -142,3 +142,9 @@ part-of-more s n c h k =
     pick-yes _ _ _ (le→leb _ _ fits)
     ∙ front-part (s .start) (s .length) n c h
     ∙ sym (pick-yes _ _ _ (le→leb _ _ fits-all))
+
+-- a stretch that lies inside the bytes names as many as it is long, from its start on
+pub part-inside : (s : Stretch) (c : List ℕ) → s .start + s .length ≤ length c
+    → partOf s c ≡ take (s .length) (drop (s .start) c)
+unfolding partOf
+part-inside s c h = pick-yes _ _ _ (le→leb _ _ h)

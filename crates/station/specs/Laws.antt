@@ -1,0 +1,9 @@
+-- The laws behind the promises. Nobody has to believe them: they are checked.
+pub mod Sheets
+pub mod Balance
+pub mod Bound
+pub mod Views
+pub mod Calls
+pub mod Accounts
+pub mod Numbers
+pub mod Rounds

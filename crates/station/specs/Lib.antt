@@ -1,0 +1,14 @@
+-- The calls and the sheet on the code's own records, in document 01's words; what callers see of a list of calls; the
+-- demands.
+pub mod Numbers
+pub mod Lines
+pub mod Stations
+pub mod Sheets
+pub mod Rounds
+pub mod Reading
+pub mod History
+pub mod OneLine
+pub mod Due
+pub mod Parts
+pub mod Laws
+pub mod Demands

@@ -1,0 +1,62 @@
+-- One line by itself, in document 01's terms: what its own openings, deliveries and turns make of it, and what is seen
+-- of them. Nothing here knows of other lines or of bytes in arrays. `Laws/Calls.antt` says that this is what the calls
+-- of the code do to a line of the station.
+use mathlib.Core.Option.{Option, none, some}
+use mathlib.Core.List.{List, [], _∷_, _++_}
+use Prim.Native.Nat.{ℕ, _+_}
+use lib.Dec.{leb}
+use lib.ListN.{length, take, drop}
+use Rattle.characters.specs.Answers.{pick}
+use Rattle.groups.specs.Modes.{isMode}
+use Rattle.line.specs.Lines.{LineAnswer, State, outside, after, answers, untilAnswer}
+use Rattle.station.specs.Sheets.{Entry, Told, shown}
+use Rattle.station.specs.History.{Event, openingIn, deliveryOf, turn, Sight, was, got, took}
+
+-- a line is closed, or open: its mode, where it is, and the bytes that wait
+pub data Line : Type 0 where
+  closed : Line
+  opened : (mode : ℕ) (state : State) (inbox : List ℕ) → Line
+
+-- how many bytes a turn takes: "its oldest bytes, at most 64", and none after one that gives an answer
+abbrev pub quota : ℕ → State → List ℕ → ℕ
+quota mode s inbox = untilAnswer mode s (take 64 inbox)
+
+unfoldable pub lineAfter : Line → Event → Line
+lineAfter l (openingIn mode) = pick (isMode mode) (opened mode outside []) l
+lineAfter closed (deliveryOf bytes) = closed
+lineAfter (opened mode s inbox) (deliveryOf bytes) =
+    pick (leb (length inbox + length bytes) 256) (opened mode s (inbox ++ bytes)) (opened mode s inbox)
+lineAfter closed turn = closed
+lineAfter (opened mode s inbox) turn =
+    opened mode (after mode s (take (quota mode s inbox) inbox)) (drop (quota mode s inbox) inbox)
+
+-- a turn gives at most one answer
+abbrev pub firstShown : List LineAnswer → Option Entry
+firstShown [] = none
+firstShown (a ∷ more) = some (shown a)
+
+unfoldable pub turnTold : Line → Told
+turnTold closed = record { count = 0; entry = none }
+turnTold (opened mode s inbox) =
+    record {
+      count = quota mode s inbox;
+      entry = firstShown (answers mode s (take (quota mode s inbox) inbox));
+    }
+
+-- 17, 15 or 0
+unfoldable pub deliveryNumber : Line → List ℕ → ℕ
+deliveryNumber closed bytes = 17
+deliveryNumber (opened mode s inbox) bytes = pick (leb (length inbox + length bytes) 256) 0 15
+
+unfoldable pub lineSight : Line → Event → Sight
+lineSight l (openingIn mode) = was mode (pick (isMode mode) 0 19)
+lineSight l (deliveryOf bytes) = got bytes (deliveryNumber l bytes)
+lineSight l turn = took (turnTold l)
+
+abbrev pub lineRun : Line → List Event → Line
+lineRun l [] = l
+lineRun l (e ∷ es) = lineRun (lineAfter l e) es
+
+abbrev pub lineSeen : Line → List Event → List Sight
+lineSeen l [] = []
+lineSeen l (e ∷ es) = lineSight l e ∷ lineSeen (lineAfter l e) es

@@ -1,0 +1,34 @@
+-- How a caller reads the sheet of a round: what it tells of each line's turn.
+use mathlib.Core.Option.{Option, none, some}
+use mathlib.Core.List.{List, [], _∷_}
+use Prim.Native.Nat.{ℕ, _+_, _*_}
+use lib.Dec.{eqb}
+use lib.ListN.{getD, take, drop}
+use Rattle.characters.specs.Answers.{pick}
+use Rattle.station.specs.Sheets.{Entry, Told}
+
+-- the entry that stands at the front of these bytes
+unfoldable pub readEntry : List ℕ → Option Entry
+readEntry [] = none
+readEntry (n ∷ []) = none
+readEntry (n ∷ a ∷ []) = none
+readEntry (n ∷ a ∷ b ∷ []) = none
+readEntry (n ∷ a ∷ b ∷ c ∷ text) =
+    some (record {
+      number = n;
+      label = take a text;
+      stamp = take b (drop a text);
+      «data» = take c (drop b (drop a text));
+    })
+
+-- the entry at an offset; "0 where a line has no answer"
+unfoldable pub entryAt : List ℕ → ℕ → Option Entry
+entryAt sheet offset = pick (eqb offset 0) none (readEntry (drop offset sheet))
+
+-- what a sheet tells of line i's turn: byte i is the count, bytes 8 + 2i and 9 + 2i are the offset
+unfoldable pub readTurn : List ℕ → ℕ → Told
+readTurn sheet i =
+    record {
+      count = getD sheet i 0;
+      entry = entryAt sheet (getD sheet (8 + 2 * i) 0 + 256 * getD sheet (9 + 2 * i) 0);
+    }
