@@ -10,5 +10,6 @@ pub mod History
 pub mod OneLine
 pub mod Due
 pub mod Parts
+pub mod Contracts
 pub mod Laws
 pub mod Demands
