@@ -1,0 +1,31 @@
+-- What is promised of the listing: only the statements need to be read. That the program writes the text that
+-- `list_next` lays, and nothing else, is no statement: no contract can speak of what is read or written.
+use mathlib.Core.Path.{_≡_}
+use mathlib.Core.Option.{some}
+use mathlib.Core.List.{List, [], _∷_, _++_}
+use Prim.Native.Nat.{ℕ, _≤_}
+use lib.ListN.{length}
+use Rattle.line.specs.Lines.{outside}
+use Rattle.line.specs.declared.LineState.{LineState}
+use Rattle.line.specs.declared.Opening.the-variants.{Opened}
+use Rattle.listing.specs.Listing.{modeBy, listing, joined, linesByPiece}
+use Rattle.listing.specs.Parts.{Fresh, openingIn}
+use Rattle.listing.specs.Laws.{listing-by-piece, listing-begins, listing-alone, opened-fresh}
+
+-- However a capture is cut into pieces, the lines of the pieces, one behind the other, are its listing.
+pub cut-anywhere : (letter mode : ℕ) → modeBy letter ≡ some mode → (pieces : List (List ℕ))
+    → listing (letter ∷ joined pieces) ≡ linesByPiece mode outside pieces
+cut-anywhere = listing-by-piece
+
+-- A capture that was cut short has a beginning of the whole one's listing.
+pub cut-short : (a b : List ℕ) → 1 ≤ length a → (more : List ℕ) × (listing (a ++ b) ≡ listing a ++ more)
+cut-short = listing-begins
+
+-- The letter alone has no line at all.
+pub letter-alone : (letter mode : ℕ) → modeBy letter ≡ some mode → listing (letter ∷ []) ≡ []
+letter-alone = listing-alone
+
+-- A line that a letter opens is of the letter's mode, and has heard nothing yet.
+pub opened-by-letter : (letter : ℕ) (l : LineState) → openingIn (modeBy letter) ≡ Opened l
+    → (mode : ℕ) × (modeBy letter ≡ some mode) × Fresh mode l
+opened-by-letter = opened-fresh

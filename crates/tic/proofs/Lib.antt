@@ -1,0 +1,3 @@
+-- Laws that only the proofs of functions need.
+pub mod Telling
+pub mod Lent

@@ -1,0 +1,618 @@
+//! Holds other programs against this reader, on made-up captures and
+//! histories.
+
+use crate::dice::Dice;
+use crate::drafts::Generator;
+use crate::group::judge;
+use crate::hexadecimal::hexadecimal;
+use crate::histories::{log_bytes, Item, CALLS_IN_HISTORY};
+use crate::listing::{answers_of_capture, listing};
+use crate::numbers::Answer;
+use crate::replay::{read_log, replies_to, text_of_replies, Call, Reply};
+use crate::station::LONGEST_TURN;
+use crate::table::{all_rules, Mode};
+use std::collections::{BTreeMap, BTreeSet};
+use std::io::{Read, Write};
+use std::os::unix::process::CommandExt;
+use std::process::{Command, Stdio};
+use std::sync::atomic::{AtomicBool, AtomicU64, Ordering};
+use std::sync::{mpsc, Mutex};
+use std::time::{Duration, Instant};
+
+/// How many programs may run at one time.
+const MOST_AT_ONCE: usize = 2;
+/// A program that has not ended after this long is stopped.
+const LONGEST_RUN: Duration = Duration::from_secs(60);
+/// A program's output is read no further than this.
+const LONGEST_OUTPUT: u64 = 16 * 1024 * 1024;
+/// How often a program is run at most to cut an input down.
+const MOST_CUTTING_RUNS: usize = 2000;
+/// How long the cutting of an input goes on at most.
+const LONGEST_CUTTING: Duration = Duration::from_secs(240);
+
+/// What `second compare` was asked for.
+#[derive(Clone, Debug)]
+pub struct Settings {
+    pub seed: u64,
+    pub count: u64,
+    pub listing_program: Option<String>,
+    pub replay_program: Option<String>,
+}
+
+/// Where an answer was seen, one column of the closing table.
+#[derive(Clone, Copy, Debug, PartialEq, Eq, PartialOrd, Ord)]
+enum Place {
+    Listing,
+    Opening,
+    Delivery,
+    Round,
+    Sheet,
+    Judging,
+    Writing,
+}
+
+const PLACES: [(Place, &str); 7] = [
+    (Place::Listing, "listing"),
+    (Place::Opening, "opening"),
+    (Place::Delivery, "delivery"),
+    (Place::Round, "round"),
+    (Place::Sheet, "sheet"),
+    (Place::Judging, "judging"),
+    (Place::Writing, "writing"),
+];
+
+/// What was seen in the inputs that were made.
+#[derive(Default)]
+struct Tally {
+    captures_compared: u64,
+    histories_compared: u64,
+    calls: u64,
+    unreadable_logs: u64,
+    runs_not_ended_well: u64,
+    answers: BTreeMap<(u8, Place), u64>,
+    labels_accepted: BTreeMap<Place, BTreeSet<(Mode, Vec<u8>)>>,
+    answers_on_64th_byte: u64,
+    offsets_over_255: u64,
+    largest_offset: usize,
+    deeds: BTreeMap<&'static str, u64>,
+}
+
+impl Tally {
+    fn count(&mut self, number: u8, place: Place) {
+        *self.answers.entry((number, place)).or_insert(0) += 1;
+    }
+
+    fn accept(&mut self, place: Place, mode: Mode, label: &[u8]) {
+        let labels = self.labels_accepted.entry(place).or_default();
+        labels.insert((mode, label.to_vec()));
+    }
+
+    fn add_deeds(&mut self, deeds: &BTreeMap<&'static str, u64>) {
+        for (deed, times) in deeds {
+            *self.deeds.entry(deed).or_insert(0) += times;
+        }
+    }
+
+    fn add(&mut self, other: Tally) {
+        self.captures_compared += other.captures_compared;
+        self.histories_compared += other.histories_compared;
+        self.calls += other.calls;
+        self.unreadable_logs += other.unreadable_logs;
+        self.runs_not_ended_well += other.runs_not_ended_well;
+        self.answers_on_64th_byte += other.answers_on_64th_byte;
+        self.offsets_over_255 += other.offsets_over_255;
+        self.largest_offset = self.largest_offset.max(other.largest_offset);
+        for (key, times) in other.answers {
+            *self.answers.entry(key).or_insert(0) += times;
+        }
+        for (place, labels) in other.labels_accepted {
+            self.labels_accepted
+                .entry(place)
+                .or_default()
+                .extend(labels);
+        }
+        self.add_deeds(&other.deeds);
+    }
+}
+
+/// An input on which a program differs.
+enum Difference {
+    OnCapture(Vec<u8>),
+    OnHistory(Vec<Item>),
+}
+
+/// One piece of work for a worker.
+#[derive(Clone, Copy, Debug)]
+enum Task {
+    Capture(u64),
+    History(u64),
+}
+
+/// Compares, prints what came of it, and tells whether all was the same.
+pub fn compare(settings: &Settings) -> bool {
+    let captures = settings.count;
+    let histories = settings.count / 10;
+    let next_task = AtomicU64::new(0);
+    let stop = AtomicBool::new(false);
+    let whole_tally = Mutex::new(Tally::default());
+    let found: Mutex<Option<(u64, Difference)>> = Mutex::new(None);
+    let workers = std::thread::available_parallelism()
+        .map_or(1, |cores| cores.get())
+        .min(MOST_AT_ONCE);
+    std::thread::scope(|scope| {
+        for _ in 0..workers {
+            scope.spawn(|| {
+                let mut tally = Tally::default();
+                while !stop.load(Ordering::SeqCst) {
+                    let number = next_task.fetch_add(1, Ordering::SeqCst);
+                    if number >= captures + histories {
+                        break;
+                    }
+                    let task = task_of(number, captures, histories);
+                    if let Some(difference) = do_task(settings, task, &mut tally) {
+                        stop.store(true, Ordering::SeqCst);
+                        let mut place = found.lock().expect("no worker panics");
+                        if place.as_ref().is_none_or(|(other, _)| number < *other) {
+                            *place = Some((number, difference));
+                        }
+                    }
+                }
+                whole_tally.lock().expect("no worker panics").add(tally);
+            });
+        }
+    });
+    if let Some((number, difference)) = found.into_inner().expect("no worker panics") {
+        let task = task_of(number, captures, histories);
+        print_difference(settings, task, difference);
+        return false;
+    }
+    let tally = whole_tally.into_inner().expect("no worker panics");
+    print_tally(captures, histories, &tally);
+    true
+}
+
+/// Every eleventh task is a history, as long as there are both.
+fn task_of(number: u64, captures: u64, histories: u64) -> Task {
+    let block = number / 11;
+    if block < histories {
+        match number % 11 {
+            10 => Task::History(block),
+            within => Task::Capture(block * 10 + within),
+        }
+    } else {
+        let index = number - histories;
+        debug_assert!(index < captures);
+        Task::Capture(index)
+    }
+}
+
+fn do_task(settings: &Settings, task: Task, tally: &mut Tally) -> Option<Difference> {
+    match task {
+        Task::Capture(index) => {
+            let mut generator = Generator::new(Dice::for_item(settings.seed, 1, index));
+            let capture = generator.capture();
+            tally.add_deeds(&generator.deeds);
+            tally_capture(&capture, tally);
+            let program = settings.listing_program.as_ref()?;
+            let run = run_program(program, &capture);
+            tally.captures_compared += 1;
+            tally.runs_not_ended_well += u64::from(!run.ended_well);
+            (run.output != listing(&capture).into_bytes()).then_some(Difference::OnCapture(capture))
+        }
+        Task::History(index) => {
+            let mut generator = Generator::new(Dice::for_item(settings.seed, 2, index));
+            let history = generator.history();
+            let log = log_bytes(&history);
+            let replies = replies_to(&log);
+            tally.add_deeds(&generator.deeds);
+            tally_history(&log, &replies, tally);
+            let program = settings.replay_program.as_ref()?;
+            let run = run_program(program, &log);
+            tally.histories_compared += 1;
+            tally.runs_not_ended_well += u64::from(!run.ended_well);
+            let own = text_of_replies(&replies).into_bytes();
+            (run.output != own).then_some(Difference::OnHistory(history))
+        }
+    }
+}
+
+fn tally_capture(capture: &[u8], tally: &mut Tally) {
+    match answers_of_capture(capture) {
+        Err(refusal) => tally.count(refusal.number(), Place::Listing),
+        Ok(answers) => {
+            let mode = match capture[0] {
+                b'H' => Mode::Historic,
+                _ => Mode::Standard,
+            };
+            for answer in &answers {
+                tally.count(answer.number(), Place::Listing);
+                if let Answer::GroupAccepted { label, .. } = answer {
+                    tally.accept(Place::Listing, mode, label.as_bytes());
+                }
+            }
+        }
+    }
+}
+
+fn tally_history(log: &[u8], replies: &[Reply], tally: &mut Tally) {
+    let calls = read_log(log).calls;
+    tally.calls += calls.len() as u64;
+    for (index, reply) in replies.iter().enumerate() {
+        match reply {
+            Reply::Opened { number } => tally.count(*number, Place::Opening),
+            Reply::Delivered { number } => tally.count(*number, Place::Delivery),
+            Reply::Rounded { number, counts, .. } => {
+                tally.count(*number, Place::Round);
+                for entry in reply.entries() {
+                    tally.count(entry.number, Place::Sheet);
+                    if entry.number == 1 {
+                        // No label is in both lists.
+                        let label = &entry.texts[0];
+                        tally.accept(Place::Sheet, mode_of_label(label), label);
+                    }
+                    if usize::from(counts[entry.line]) == LONGEST_TURN {
+                        tally.answers_on_64th_byte += 1;
+                    }
+                    tally.offsets_over_255 += u64::from(entry.offset > 255);
+                    tally.largest_offset = tally.largest_offset.max(entry.offset);
+                }
+            }
+            Reply::Judged { number, .. } => {
+                tally.count(*number, Place::Judging);
+                if let Call::Judge { mode, content } = &calls[index] {
+                    let judgement = judge(*mode, content);
+                    if let (1, Some(mode)) = (judgement.number(), Mode::from_number(*mode)) {
+                        tally.accept(Place::Judging, mode, judgement.stretches().label);
+                    }
+                }
+            }
+            Reply::Written { number, .. } => {
+                tally.count(*number, Place::Writing);
+                if let (0, Call::Write { mode, label, .. }) = (*number, &calls[index]) {
+                    if let Some(mode) = Mode::from_number(*mode) {
+                        tally.accept(Place::Writing, mode, label);
+                    }
+                }
+            }
+            Reply::Unreadable => tally.unreadable_logs += 1,
+        }
+    }
+}
+
+fn mode_of_label(label: &[u8]) -> Mode {
+    let historic = all_rules(Mode::Historic)
+        .iter()
+        .any(|rule| rule.label.as_bytes() == label);
+    if historic {
+        Mode::Historic
+    } else {
+        Mode::Standard
+    }
+}
+
+/// What a program gave.
+struct ProgramRun {
+    output: Vec<u8>,
+    ended_well: bool,
+    ending: String,
+}
+
+/// Runs a command line through `sh -c` with the bytes on its standard input.
+fn run_program(command_line: &str, input: &[u8]) -> ProgramRun {
+    let spawned = Command::new("sh")
+        .arg("-c")
+        .arg(command_line)
+        .stdin(Stdio::piped())
+        .stdout(Stdio::piped())
+        .process_group(0)
+        .spawn();
+    let mut child = match spawned {
+        Ok(child) => child,
+        Err(problem) => {
+            return ProgramRun {
+                output: Vec::new(),
+                ended_well: false,
+                ending: format!("could not be started: {problem}"),
+            }
+        }
+    };
+    let mut child_input = child.stdin.take().expect("standard input is piped");
+    let mut child_output = child.stdout.take().expect("standard output is piped");
+    let input_copy = input.to_vec();
+    // A program may end before it has read everything, so a failed write is
+    // no fault.
+    std::thread::spawn(move || {
+        let _ = child_input.write_all(&input_copy);
+    });
+    let (sender, receiver) = mpsc::channel();
+    std::thread::spawn(move || {
+        let mut output = Vec::new();
+        let _ = child_output
+            .by_ref()
+            .take(LONGEST_OUTPUT)
+            .read_to_end(&mut output);
+        let _ = sender.send(output);
+    });
+    match receiver.recv_timeout(LONGEST_RUN) {
+        Ok(output) => match child.wait() {
+            Ok(status) => ProgramRun {
+                output,
+                ended_well: status.success(),
+                ending: status.to_string(),
+            },
+            Err(problem) => ProgramRun {
+                output,
+                ended_well: false,
+                ending: problem.to_string(),
+            },
+        },
+        Err(_) => {
+            // The child leads a process group of its own; end that group.
+            let group = format!("-{}", child.id());
+            let _ = Command::new("kill").args(["-KILL", "--", &group]).status();
+            let _ = child.wait();
+            ProgramRun {
+                output: Vec::new(),
+                ended_well: false,
+                ending: format!("stopped after {} seconds", LONGEST_RUN.as_secs()),
+            }
+        }
+    }
+}
+
+/// Cuts a row down: leaves out chunks, large ones first, as long as what is
+/// left still differs.
+fn cut_down<Part: Clone>(
+    parts: Vec<Part>,
+    still_differs: &mut dyn FnMut(&[Part]) -> bool,
+) -> Vec<Part> {
+    let mut parts = parts;
+    let mut chunk = parts.len().div_ceil(2).max(1);
+    loop {
+        let mut begin = 0;
+        let mut shortened = false;
+        while begin < parts.len() {
+            let end = (begin + chunk).min(parts.len());
+            let without = [&parts[..begin], &parts[end..]].concat();
+            if still_differs(&without) {
+                parts = without;
+                shortened = true;
+            } else {
+                begin = end;
+            }
+        }
+        if chunk > 1 {
+            chunk = chunk.div_ceil(2);
+        } else if !shortened {
+            return parts;
+        }
+    }
+}
+
+/// Bounds the cutting, in runs and in time.
+struct Patience {
+    runs: usize,
+    begin: Instant,
+}
+
+impl Patience {
+    fn new() -> Patience {
+        Patience {
+            runs: 0,
+            begin: Instant::now(),
+        }
+    }
+
+    fn allows_another_run(&mut self) -> bool {
+        self.runs += 1;
+        self.runs <= MOST_CUTTING_RUNS && self.begin.elapsed() < LONGEST_CUTTING
+    }
+}
+
+fn cut_capture(program: &str, capture: Vec<u8>) -> Vec<u8> {
+    let mut patience = Patience::new();
+    cut_down(capture, &mut |shorter: &[u8]| {
+        patience.allows_another_run()
+            && run_program(program, shorter).output != listing(shorter).into_bytes()
+    })
+}
+
+fn history_differs(program: &str, items: &[Item]) -> bool {
+    let log = log_bytes(items);
+    run_program(program, &log).output != text_of_replies(&replies_to(&log)).into_bytes()
+}
+
+/// Leaves out whole records first, then bytes of the deliveries and judgings
+/// that are left, and so on until nothing more can go.
+fn cut_history(program: &str, history: Vec<Item>) -> Vec<Item> {
+    let mut patience = Patience::new();
+    let mut differs =
+        |items: &[Item]| patience.allows_another_run() && history_differs(program, items);
+    let mut items = history;
+    loop {
+        let before = log_bytes(&items).len();
+        items = cut_down(items, &mut differs);
+        for index in 0..items.len() {
+            let mut trial = items.clone();
+            let bytes = payload_of(&items[index]);
+            let shorter = cut_down(bytes, &mut |shorter: &[u8]| {
+                trial[index] = with_payload(&items[index], shorter);
+                differs(&trial)
+            });
+            items[index] = with_payload(&items[index], &shorter);
+        }
+        if log_bytes(&items).len() == before {
+            return items;
+        }
+    }
+}
+
+/// The bytes of an item that can be cut down; none for calls without any.
+fn payload_of(item: &Item) -> Vec<u8> {
+    match item {
+        Item::Call(Call::Deliver { bytes, .. }) => bytes.clone(),
+        Item::Call(Call::Judge { content, .. }) => content.clone(),
+        Item::Raw(bytes) => bytes.clone(),
+        Item::Call(_) => Vec::new(),
+    }
+}
+
+/// The same item with another payload.
+fn with_payload(item: &Item, payload: &[u8]) -> Item {
+    match item {
+        Item::Call(Call::Deliver { line, .. }) => Item::Call(Call::Deliver {
+            line: *line,
+            bytes: payload.to_vec(),
+        }),
+        Item::Call(Call::Judge { mode, .. }) => Item::Call(Call::Judge {
+            mode: *mode,
+            content: payload.to_vec(),
+        }),
+        Item::Raw(_) => Item::Raw(payload.to_vec()),
+        Item::Call(call) => Item::Call(call.clone()),
+    }
+}
+
+fn print_difference(settings: &Settings, task: Task, difference: Difference) {
+    let mut report = String::new();
+    let (input, own, run) = match difference {
+        Difference::OnCapture(capture) => {
+            let program = settings.listing_program.as_deref().unwrap_or("");
+            report.push_str(&format!(
+                "difference on {task:?} of seed {} ({} bytes before cutting)\n",
+                settings.seed,
+                capture.len()
+            ));
+            let shorter = cut_capture(program, capture);
+            let run = run_program(program, &shorter);
+            let own = listing(&shorter);
+            (shorter, own, run)
+        }
+        Difference::OnHistory(history) => {
+            let program = settings.replay_program.as_deref().unwrap_or("");
+            report.push_str(&format!(
+                "difference on {task:?} of seed {} ({} records before cutting)\n",
+                settings.seed,
+                history.len()
+            ));
+            let shorter = cut_history(program, history);
+            report.push_str("records:\n");
+            for item in &shorter {
+                report.push_str(&format!("  {}\n", hexadecimal(&item.to_record())));
+            }
+            let log = log_bytes(&shorter);
+            let run = run_program(program, &log);
+            let own = text_of_replies(&replies_to(&log));
+            (log, own, run)
+        }
+    };
+    report.push_str(&format!("input in hex:\n{}\n", hexadecimal(&input)));
+    report.push_str(&format!("output of this reader:\n{own}"));
+    report.push_str(&format!(
+        "output of the program ({}):\n{}",
+        run.ending,
+        String::from_utf8_lossy(&run.output)
+    ));
+    report.push_str(&first_difference(
+        &own,
+        &String::from_utf8_lossy(&run.output),
+    ));
+    print_quietly(&report);
+}
+
+/// Points out where the outputs part.
+fn first_difference(own: &str, other: &str) -> String {
+    if own == other {
+        return "the outputs are the same now: the program is not steady\n".to_string();
+    }
+    let own_lines: Vec<&str> = own.split_inclusive('\n').collect();
+    let other_lines: Vec<&str> = other.split_inclusive('\n').collect();
+    let line = count_same(&own_lines, &other_lines);
+    let characters_of = |lines: &[&str]| -> Vec<char> {
+        lines
+            .get(line)
+            .map_or(Vec::new(), |one| one.chars().collect())
+    };
+    let own_line = characters_of(&own_lines);
+    let other_line = characters_of(&other_lines);
+    let place = count_same(&own_line, &other_line);
+    let excerpt = |characters: &[char]| -> String {
+        let begin = place.saturating_sub(30).min(characters.len());
+        let end = (place + 30).min(characters.len());
+        characters[begin..end].iter().collect()
+    };
+    format!(
+        "they part on line {}, character {}, near:\n  this reader: {:?}\n  the program: {:?}\n",
+        line + 1,
+        place + 1,
+        excerpt(&own_line),
+        excerpt(&other_line)
+    )
+}
+
+/// How many parts two rows have in common from their beginnings.
+fn count_same<Part: PartialEq>(first: &[Part], second: &[Part]) -> usize {
+    first
+        .iter()
+        .zip(second)
+        .take_while(|(one, other)| one == other)
+        .count()
+}
+
+fn print_tally(captures: u64, histories: u64, tally: &Tally) {
+    let mut report = format!(
+        "captures: {captures} made, {} compared\n\
+         histories: {histories} made of {CALLS_IN_HISTORY} calls each, {} compared; \
+         {} calls in them, {} of them end in `?`\n\
+         runs that ended with another status than 0: {}\n",
+        tally.captures_compared,
+        tally.histories_compared,
+        tally.calls,
+        tally.unreadable_logs,
+        tally.runs_not_ended_well,
+    );
+    report.push_str("answers seen:\n  number");
+    for (_, name) in PLACES {
+        report.push_str(&format!(" {name:>9}"));
+    }
+    report.push_str("       all\n");
+    for number in 0..=20 {
+        let seen: Vec<u64> = PLACES
+            .iter()
+            .map(|(place, _)| *tally.answers.get(&(number, *place)).unwrap_or(&0))
+            .collect();
+        report.push_str(&format!("  {number:>6}"));
+        for times in &seen {
+            report.push_str(&format!(" {times:>9}"));
+        }
+        report.push_str(&format!(" {:>9}\n", seen.iter().sum::<u64>()));
+    }
+    report.push_str("labels accepted or written, standard of 71 and historic of 34:\n");
+    for (place, name) in PLACES {
+        if let Some(labels) = tally.labels_accepted.get(&place) {
+            let of_mode = |mode| labels.iter().filter(|(one, _)| *one == mode).count();
+            report.push_str(&format!(
+                "  {name}: {} and {}\n",
+                of_mode(Mode::Standard),
+                of_mode(Mode::Historic)
+            ));
+        }
+    }
+    report.push_str(&format!(
+        "turns with an answer on the 64th byte: {}\n\
+         entries at an offset over 255: {}, largest offset: {}\n",
+        tally.answers_on_64th_byte, tally.offsets_over_255, tally.largest_offset
+    ));
+    report.push_str("what the generator did:\n");
+    for (deed, times) in &tally.deeds {
+        report.push_str(&format!("  {times:>9} {deed}\n"));
+    }
+    print_quietly(&report);
+}
+
+/// Prints, and does not mind when nobody reads.
+fn print_quietly(text: &str) {
+    let mut output = std::io::stdout().lock();
+    let _ = output.write_all(text.as_bytes());
+    let _ = output.flush();
+}

@@ -1,0 +1,507 @@
+//! Made-up groups: right ones, and ones with a field spoilt.
+
+use crate::dice::Dice;
+use crate::group::{check_character, days_in_month};
+use crate::table::{all_rules, Kind, Mode, Rule, Season};
+use crate::wire::{HORIZONTAL_TAB, SPACE};
+use std::collections::BTreeMap;
+
+/// Sizes at which something may turn: the shape's least length, a turn, the
+/// longest content, the inbox.
+pub const EDGE_SIZES: [usize; 21] = [
+    0, 1, 2, 3, 4, 5, 62, 63, 64, 65, 66, 126, 127, 128, 129, 130, 192, 254, 255, 256, 257,
+];
+
+/// Makes things up, and notes what it did.
+pub struct Generator {
+    pub dice: Dice,
+    pub deeds: BTreeMap<&'static str, u64>,
+}
+
+/// How the check character of a draft is chosen.
+#[derive(Clone, Copy, Debug, PartialEq, Eq)]
+pub enum CheckChoice {
+    Right,
+    /// By the sum rule of the other mode ("One sum rule for both modes").
+    RuleOfOtherMode,
+    /// The right one moved by this much.
+    Moved(u8),
+    Fixed(u8),
+    LeftOut,
+}
+
+/// A group in parts, so that each can be spoilt alone.
+#[derive(Clone, Debug)]
+pub struct Draft {
+    pub mode: Mode,
+    pub rule: &'static Rule,
+    pub label: Vec<u8>,
+    pub first_separator: Vec<u8>,
+    pub stamp: Vec<u8>,
+    pub stamp_separator: Vec<u8>,
+    pub data: Vec<u8>,
+    pub final_separator: Vec<u8>,
+    pub check: CheckChoice,
+}
+
+impl Draft {
+    /// The content of the group, its check character reckoned over the parts
+    /// as they stand now.
+    pub fn content(&self) -> Vec<u8> {
+        let body = [
+            &self.label[..],
+            &self.first_separator[..],
+            &self.stamp[..],
+            &self.stamp_separator[..],
+            &self.data[..],
+        ]
+        .concat();
+        let through_separator = [&body[..], &self.final_separator[..]].concat();
+        let by_mode = |mode: Mode| {
+            check_character(match mode {
+                Mode::Historic => &body,
+                Mode::Standard => &through_separator,
+            })
+        };
+        let mut content = through_separator.clone();
+        match self.check {
+            CheckChoice::Right => content.push(by_mode(self.mode)),
+            CheckChoice::RuleOfOtherMode => content.push(by_mode(self.mode.other())),
+            CheckChoice::Moved(distance) => {
+                content.push(by_mode(self.mode).wrapping_add(distance));
+            }
+            CheckChoice::Fixed(character) => content.push(character),
+            CheckChoice::LeftOut => {}
+        }
+        content
+    }
+}
+
+/// The field that is spoilt.
+#[derive(Clone, Copy, Debug, PartialEq, Eq)]
+pub enum Spoiling {
+    Label,
+    Separator,
+    Stamp,
+    Width,
+    Kind,
+    Check,
+    HighBit,
+}
+
+impl Generator {
+    pub fn new(dice: Dice) -> Generator {
+        Generator {
+            dice,
+            deeds: BTreeMap::new(),
+        }
+    }
+
+    /// Notes that something was done, for the closing report.
+    pub fn note(&mut self, deed: &'static str) {
+        *self.deeds.entry(deed).or_insert(0) += 1;
+    }
+
+    /// One of the modes; standard mode more often, for it has twice as many
+    /// labels and all the stamps.
+    pub fn mode(&mut self) -> Mode {
+        if self.dice.percent(35) {
+            Mode::Historic
+        } else {
+            Mode::Standard
+        }
+    }
+
+    /// A right group of any label of the mode.
+    pub fn right_draft(&mut self, mode: Mode) -> Draft {
+        self.right_draft_of(mode, &all_rules(mode))
+    }
+
+    /// A right group of a label on which the spoiling can show: stamped ones
+    /// for the stamp (DATE often, for it has nothing after the stamp), the one
+    /// hexadecimal label now and then for the kind.
+    fn right_draft_for(&mut self, mode: Mode, spoiling: Spoiling) -> Draft {
+        let with_dates_only = self.dice.percent(25);
+        let with_hexadecimal_only = self.dice.percent(15);
+        let suited: Vec<&'static Rule> = all_rules(mode)
+            .into_iter()
+            .filter(|rule| match spoiling {
+                Spoiling::Stamp if with_dates_only => rule.stamp.is_some() && rule.width == 0,
+                Spoiling::Stamp => rule.stamp.is_some(),
+                Spoiling::Kind if with_hexadecimal_only => rule.kind == Kind::Hexadecimal,
+                _ => true,
+            })
+            .collect();
+        if suited.is_empty() || self.dice.percent(10) {
+            self.right_draft(mode)
+        } else {
+            self.right_draft_of(mode, &suited)
+        }
+    }
+
+    fn right_draft_of(&mut self, mode: Mode, rules: &[&'static Rule]) -> Draft {
+        let rule = *self.dice.pick(rules);
+        let stamp = match rule.stamp {
+            None => Vec::new(),
+            Some(season) => self.right_stamp(season),
+        };
+        let stamp_separator = match rule.stamp {
+            None => Vec::new(),
+            Some(_) => vec![HORIZONTAL_TAB],
+        };
+        Draft {
+            mode,
+            rule,
+            label: rule.label.clone().into_bytes(),
+            first_separator: vec![mode.separator()],
+            stamp,
+            stamp_separator,
+            data: self.data_of(rule.kind, rule.width),
+            final_separator: vec![mode.separator()],
+            check: CheckChoice::Right,
+        }
+    }
+
+    /// Data of a kind and a length, now and then all of one border character
+    /// or with spaces at its ends.
+    pub fn data_of(&mut self, kind: Kind, length: usize) -> Vec<u8> {
+        let characters: &[u8] = match kind {
+            Kind::Decimal => b"0123456789",
+            Kind::Hexadecimal => b"0123456789ABCDEF",
+            Kind::Text => b" !09:;@AFGZ[`afgz{ABCDEFGHIJKLMNOPQRSTUVWXYZabcxyz0123456789~",
+        };
+        let mut data: Vec<u8> = match self.dice.below(8) {
+            0 => vec![characters[0]; length],
+            1 => vec![*characters.last().expect("a kind has characters"); length],
+            2 if kind == Kind::Text => (0..length)
+                .map(|_| self.dice.between(0x20, 0x7E) as u8)
+                .collect(),
+            _ => (0..length).map(|_| *self.dice.pick(characters)).collect(),
+        };
+        if kind == Kind::Text && length > 0 && self.dice.percent(30) {
+            let place = *self.dice.pick(&[0, length / 2, length - 1]);
+            data[place] = SPACE;
+        }
+        data
+    }
+
+    /// A right stamp, often at the border of a field.
+    pub fn right_stamp(&mut self, season: Season) -> Vec<u8> {
+        let letter = match season {
+            Season::WinterOrSummer => *self.dice.pick(b"HE"),
+            Season::SpaceOnly => SPACE,
+        };
+        let year = match self.dice.below(3) {
+            0 => *self.dice.pick(&[0, 1, 3, 4, 8, 9, 50, 96, 98, 99]),
+            _ => self.dice.below(100),
+        };
+        let month = match self.dice.below(3) {
+            0 => *self.dice.pick(&[1, 2, 12]),
+            _ => self.dice.between(1, 12),
+        };
+        let last_day = days_in_month(year as u32, month as u32) as usize;
+        let day = match self.dice.below(3) {
+            0 => *self.dice.pick(&[1, last_day]),
+            _ => self.dice.between(1, last_day),
+        };
+        let (year, month, day) = if self.dice.percent(8) {
+            // "February having 29 days when YY divides by 4", 00 as well.
+            (*self.dice.pick(&[0, 4, 8, 20, 24, 96]), 2, 29)
+        } else {
+            (year, month, day)
+        };
+        let time = match self.dice.below(4) {
+            0 => [0, 0, 0],
+            1 => [23, 59, 59],
+            _ => [
+                self.dice.below(24),
+                self.dice.below(60),
+                self.dice.below(60),
+            ],
+        };
+        stamp_text(letter, [year, month, day, time[0], time[1], time[2]])
+    }
+
+    /// Spoils one field of a draft.
+    pub fn spoil(&mut self, draft: &mut Draft, spoiling: Spoiling) {
+        match spoiling {
+            Spoiling::Label => self.spoil_label(draft),
+            Spoiling::Separator => self.spoil_separator(draft),
+            Spoiling::Stamp => self.spoil_stamp(draft),
+            Spoiling::Width => self.spoil_width(draft),
+            Spoiling::Kind => self.spoil_kind(draft),
+            Spoiling::Check => self.spoil_check(draft),
+            Spoiling::HighBit => self.spoil_high_bit(draft),
+        }
+    }
+
+    /// A right draft with one field spoilt, now and then a second one too, so
+    /// that the order of the refusals is tried.
+    pub fn spoilt_draft(&mut self, mode: Mode, choices: &[Spoiling]) -> Draft {
+        let first = *self.dice.pick(choices);
+        let mut draft = self.right_draft_for(mode, first);
+        self.spoil(&mut draft, first);
+        if self.dice.percent(25) {
+            let second = *self.dice.pick(choices);
+            self.spoil(&mut draft, second);
+        }
+        draft
+    }
+
+    fn spoil_label(&mut self, draft: &mut Draft) {
+        self.note("spoilt: label");
+        let place = self.dice.below(draft.label.len().max(1));
+        match self.dice.below(9) {
+            0 => draft.label.clear(),
+            1 => {
+                draft.label.pop();
+            }
+            2 => {
+                let added = *self.dice.pick(b"01234X+-");
+                draft.label.push(added);
+            }
+            3 => draft.label = draft.label.to_ascii_lowercase(),
+            4 => {
+                let rules = all_rules(draft.mode.other());
+                draft.label = self.dice.pick(&rules).label.clone().into_bytes();
+            }
+            5 => {
+                // A label of the same mode that has another rule, perhaps.
+                let rules = all_rules(draft.mode);
+                draft.label = self.dice.pick(&rules).label.clone().into_bytes();
+            }
+            6 if !draft.label.is_empty() => {
+                draft.label[place] = draft.label[place].wrapping_add(1) & 0x7F;
+            }
+            7 => {
+                let inserted = *self.dice.pick(&[SPACE, HORIZONTAL_TAB, 0x00, 0x7F]);
+                draft.label.insert(place, inserted);
+            }
+            _ if !draft.label.is_empty() => {
+                draft.label[place] = self.dice.between(0x21, 0x7E) as u8;
+            }
+            _ => draft.label.push(b'?'),
+        }
+    }
+
+    fn spoil_separator(&mut self, draft: &mut Draft) {
+        self.note("spoilt: separator");
+        let other = draft.mode.other().separator();
+        let own = draft.mode.separator();
+        let changed = match self.dice.below(5) {
+            0 => Vec::new(),
+            1 => vec![other],
+            2 => vec![own, own],
+            3 => vec![*self.dice.pick(&[0x00, 0x08, 0x1F, 0x21, b'-', 0x7F])],
+            _ => vec![own, other],
+        };
+        match self.dice.below(3) {
+            0 => draft.first_separator = changed,
+            1 => draft.final_separator = changed,
+            _ if draft.rule.stamp.is_some() => draft.stamp_separator = changed,
+            // All of them, so that not one of the mode's is left.
+            _ => {
+                draft.first_separator = changed.clone();
+                draft.final_separator = changed;
+            }
+        }
+    }
+
+    fn spoil_stamp(&mut self, draft: &mut Draft) {
+        self.note("spoilt: stamp");
+        let Some(season) = draft.rule.stamp else {
+            // A stamp where none belongs.
+            draft.stamp = match self.dice.below(3) {
+                0 => vec![*self.dice.pick(b"H0 ")],
+                _ => self.right_stamp(Season::WinterOrSummer),
+            };
+            if self.dice.percent(70) {
+                draft.stamp_separator = vec![draft.mode.separator()];
+            }
+            return;
+        };
+        let letter = *draft.stamp.first().unwrap_or(&b'H');
+        let leap_year = self.dice.below(25) * 4;
+        let common_year = leap_year + self.dice.between(1, 3);
+        let long_month = *self.dice.pick(&[1, 3, 5, 7, 8, 10, 12]);
+        let short_month = *self.dice.pick(&[4, 6, 9, 11]);
+        let year = self.dice.below(100);
+        let any_month = self.dice.between(1, 12);
+        let small = *self.dice.pick(&[60, 61, 99]);
+        match self.dice.below(18) {
+            15 | 16 => {
+                let wrong: &[u8] = match season {
+                    Season::WinterOrSummer => b"  hhheeeFGDI\x00\t0",
+                    Season::SpaceOnly => b"HHEEhe\x00\t!0",
+                };
+                if let Some(first) = draft.stamp.first_mut() {
+                    *first = *self.dice.pick(wrong);
+                }
+            }
+            1 => {
+                let month = *self.dice.pick(&[0, 13, 20, 99]);
+                draft.stamp = stamp_text(letter, [year, month, 1, 0, 0, 0]);
+            }
+            2 => {
+                let day = *self.dice.pick(&[0, 32, 40, 99]);
+                draft.stamp = stamp_text(letter, [year, any_month, day, 0, 0, 0]);
+            }
+            3 => draft.stamp = stamp_text(letter, [year, short_month, 31, 0, 0, 0]),
+            4 => draft.stamp = stamp_text(letter, [common_year, 2, 29, 0, 0, 0]),
+            5 => draft.stamp = stamp_text(letter, [leap_year, 2, 30, 0, 0, 0]),
+            6 => draft.stamp = stamp_text(letter, [year, long_month, 32, 23, 59, 59]),
+            7 => {
+                let hour = *self.dice.pick(&[24, 25, 30, 99]);
+                draft.stamp = stamp_text(letter, [year, any_month, 1, hour, 0, 0]);
+            }
+            8 => draft.stamp = stamp_text(letter, [year, any_month, 1, 0, small, 0]),
+            9 => draft.stamp = stamp_text(letter, [year, any_month, 1, 0, 0, small]),
+            0 | 10 if !draft.stamp.is_empty() => {
+                let place = self.dice.below(draft.stamp.len());
+                draft.stamp[place] = *self.dice.pick(b"/: A\t-\x00\x7F");
+            }
+            11 => {
+                draft.stamp.pop();
+            }
+            12 => draft.stamp.push(b'0'),
+            13 => draft.stamp.clear(),
+            14 => {
+                draft.stamp.clear();
+                draft.stamp_separator.clear();
+            }
+            _ => {
+                // Nothing after the stamp but the final separator.
+                draft.stamp_separator.clear();
+                draft.data.clear();
+            }
+        }
+    }
+
+    fn spoil_width(&mut self, draft: &mut Draft) {
+        self.note("spoilt: width");
+        match self.dice.below(6) {
+            0 => {
+                draft.data.pop();
+            }
+            1 => draft.data.clear(),
+            2 | 3 => {
+                let added = self.data_of(draft.rule.kind, 1);
+                draft.data.extend(added);
+            }
+            4 => {
+                // So long that the whole content is near 128.
+                let others = draft.content().len() - draft.data.len();
+                let whole = self.dice.between(126, 131);
+                let length = whole.saturating_sub(others);
+                draft.data = self.data_of(draft.rule.kind, length);
+            }
+            _ => {
+                let length = *self.dice.pick(&EDGE_SIZES);
+                draft.data = self.data_of(draft.rule.kind, length);
+            }
+        }
+    }
+
+    fn spoil_kind(&mut self, draft: &mut Draft) {
+        if draft.data.is_empty() {
+            self.spoil_width(draft);
+            return;
+        }
+        self.note("spoilt: kind");
+        let length = draft.data.len();
+        let anywhere = self.dice.below(length);
+        let place = *self.dice.pick(&[0, length - 1, anywhere]);
+        draft.data[place] = match draft.rule.kind {
+            Kind::Decimal => *self.dice.pick(b"/:AF -.\t\x1F\x7F\x00"),
+            Kind::Hexadecimal => *self.dice.pick(b"/:@Gafg` \t\x00\x7F"),
+            Kind::Text => *self.dice.pick(b"\x1F\x7F\x00\x01\t\x0B\x1B"),
+        };
+    }
+
+    fn spoil_check(&mut self, draft: &mut Draft) {
+        self.note("spoilt: check character");
+        draft.check = match self.dice.below(6) {
+            0 => CheckChoice::RuleOfOtherMode,
+            1 => CheckChoice::Moved(*self.dice.pick(&[1, 255])),
+            2 => CheckChoice::Moved(*self.dice.pick(&[32, 64, 128, 192, 224])),
+            3 => CheckChoice::Fixed(self.dice.between(0x20, 0x5F) as u8),
+            4 => CheckChoice::Fixed(self.dice.byte()),
+            _ => CheckChoice::LeftOut,
+        };
+    }
+
+    /// "One of 128 or more enters the sum with its full number and is of no
+    /// kind": only judging and writing can see such a byte.
+    fn spoil_high_bit(&mut self, draft: &mut Draft) {
+        self.note("spoilt: a byte of 128 or more");
+        let part = match self.dice.below(5) {
+            0 => &mut draft.label,
+            1 => &mut draft.first_separator,
+            2 => &mut draft.stamp,
+            3 => &mut draft.data,
+            _ => &mut draft.final_separator,
+        };
+        let part = if part.is_empty() {
+            &mut draft.label
+        } else {
+            part
+        };
+        if !part.is_empty() {
+            let place = self.dice.below(part.len());
+            part[place] |= 0x80;
+        }
+    }
+
+    /// A content of just this many characters, in one of several forms.
+    pub fn sized_content(&mut self, mode: Mode, length: usize) -> Vec<u8> {
+        self.note("content of a chosen size");
+        let separator = mode.separator();
+        match self.dice.below(6) {
+            0 => vec![separator; length],
+            1 => self.data_of(Kind::Text, length),
+            2 => {
+                // Two separators and a right check character, of no label.
+                let mut content = vec![b'~'; length];
+                if length >= 4 {
+                    let between = self.dice.between(1, length - 3);
+                    content[between] = separator;
+                    close_content(mode, &mut content);
+                }
+                content
+            }
+            _ => {
+                // A label of the list, with data as long as it takes.
+                let mut draft = self.right_draft(mode);
+                let others = draft.content().len() - draft.data.len();
+                if let Some(rest) = length.checked_sub(others) {
+                    draft.data = self.data_of(draft.rule.kind, rest);
+                    return draft.content();
+                }
+                let mut content = draft.content();
+                content.truncate(length);
+                if length >= 4 && self.dice.percent(50) {
+                    close_content(mode, &mut content);
+                }
+                content
+            }
+        }
+    }
+}
+
+/// Puts the final separator and the right check character at the end.
+fn close_content(mode: Mode, content: &mut [u8]) {
+    let length = content.len();
+    content[length - 2] = mode.separator();
+    content[length - 1] = check_character(match mode {
+        Mode::Historic => &content[..length - 2],
+        Mode::Standard => &content[..length - 1],
+    });
+}
+
+fn stamp_text(letter: u8, fields: [usize; 6]) -> Vec<u8> {
+    let mut stamp = vec![letter];
+    for field in fields {
+        stamp.extend(format!("{field:02}").bytes());
+    }
+    stamp
+}
