@@ -49,7 +49,7 @@ impl Generator {
             }
             1 | 2 => {
                 self.note("capture: first byte near to H or S");
-                vec![*self.dice.pick(b"hsPGIRT\xC8\xD3 \x02\x82\n")]
+                vec![*self.dice.pick(b"hsPGT\xC8\xC8\xD3\xD3 \x02\x82\n")]
             }
             3 => {
                 self.note("capture: any first byte");
