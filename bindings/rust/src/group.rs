@@ -1,0 +1,101 @@
+//! The reader and the writer of one group, given alone.
+
+use crate::boundary;
+use crate::numbers::{outcome, Mode, Refusal};
+use core::fmt;
+
+/// How many characters a group's content may have.
+pub const MOST_CONTENT: usize = 128;
+
+/// How many bytes the longest group that is written has: LF, content and CR.
+pub const MOST_WRITTEN: usize = MOST_CONTENT + 2;
+
+/// The fields of an accepted group, as parts of the content that was judged.
+#[derive(Clone, Copy, Debug, PartialEq, Eq)]
+pub struct Group<'a> {
+    /// The label.
+    pub label: &'a [u8],
+    /// The stamp; empty where the label has none.
+    pub stamp: &'a [u8],
+    /// The data.
+    pub data: &'a [u8],
+}
+
+/// Judges the content of one group, what stands between LF and CR, in characters with no parity bit.
+///
+/// # Errors
+///
+/// 8 to 14, from [`Refusal::TooLong`] to [`Refusal::KindWrong`]: the first that holds.
+pub fn judge(mode: Mode, content: &[u8]) -> Result<Group<'_>, Refusal> {
+    judge_raw(mode.number(), content)
+}
+
+/// Judges the content of one group in the mode with this number.
+///
+/// # Errors
+///
+/// [`Refusal::ModeUnknown`] (19), then as [`judge`].
+pub fn judge_raw(mode: u32, content: &[u8]) -> Result<Group<'_>, Refusal> {
+    let mut stretches = [0; 6];
+    outcome(boundary::judge(mode, content, &mut stretches), 1)?;
+    let [label, label_length, stamp, stamp_length, data, data_length] = stretches;
+    Ok(Group {
+        label: &content[label..][..label_length],
+        stamp: &content[stamp..][..stamp_length],
+        data: &content[data..][..data_length],
+    })
+}
+
+/// A group as sound wire bytes: LF, its content, and CR.
+#[derive(Clone)]
+pub struct Written {
+    buffer: [u8; MOST_WRITTEN],
+    length: usize,
+}
+
+impl Written {
+    /// The wire bytes.
+    pub fn as_bytes(&self) -> &[u8] {
+        &self.buffer[..self.length]
+    }
+}
+
+impl fmt::Debug for Written {
+    fn fmt(&self, to: &mut fmt::Formatter<'_>) -> fmt::Result {
+        to.debug_tuple("Written").field(&self.as_bytes()).finish()
+    }
+}
+
+/// Writes the group with these fields; an empty stamp is one that is not given.
+///
+/// # Errors
+///
+/// 11 to 14, from [`Refusal::LabelUnknown`] to [`Refusal::KindWrong`]: the first that holds. There is always room, so
+/// 15 is not given.
+pub fn write(mode: Mode, label: &[u8], stamp: &[u8], data: &[u8]) -> Result<Written, Refusal> {
+    let mut buffer = [0; MOST_WRITTEN];
+    let length = write_raw(mode.number(), label, stamp, data, &mut buffer)?;
+    Ok(Written { buffer, length })
+}
+
+/// Writes the group with these fields, in the mode with this number, at the start of a buffer of the caller's own, and
+/// tells how many bytes that are. The rest of the buffer stays as it was.
+///
+/// # Errors
+///
+/// [`Refusal::ModeUnknown`] (19), then as [`write()`], then [`Refusal::NoRoom`] (15). All of them leave the buffer as
+/// it was.
+pub fn write_raw(
+    mode: u32,
+    label: &[u8],
+    stamp: &[u8],
+    data: &[u8],
+    buffer: &mut [u8],
+) -> Result<usize, Refusal> {
+    let mut written = 0;
+    outcome(
+        boundary::write(mode, label, stamp, data, buffer, &mut written),
+        0,
+    )?;
+    Ok(written)
+}

@@ -1,0 +1,277 @@
+//! "One group": judging and writing one that is given alone.
+
+use crate::wire::{content, group, ETX, STX};
+use tic::{judge, judge_raw, write, write_raw, Answer, Group, Mode, Notice, Refusal, Station};
+
+use Mode::{Historic, Standard};
+
+/// A group's fields.
+fn fields<'a>(label: &'a [u8], stamp: &'a [u8], data: &'a [u8]) -> Group<'a> {
+    Group { label, stamp, data }
+}
+
+/// "Figures to hold it against".
+#[test]
+fn the_figures_p1_to_p9() {
+    let stamp = b"H081225223518";
+    let urms1 = fields(b"URMS1", b"", b"230");
+    let papp = fields(b"PAPP", b"", b"00750");
+    let smaxsn = fields(b"SMAXSN", stamp, b"01200");
+    // P1 and P2
+    assert_eq!(judge(Standard, b"URMS1\t230\t?"), Ok(urms1));
+    assert_eq!(judge(Standard, b"URMS1\t230\t6"), Err(Refusal::CheckWrong));
+    // P3 and P4
+    assert_eq!(judge(Historic, b"PAPP 00750 -"), Ok(papp));
+    assert_eq!(judge(Historic, b"PAPP 00750 M"), Err(Refusal::CheckWrong));
+    // P5: the check character is SP.
+    let iinst = fields(b"IINST", b"", b"009");
+    assert_eq!(judge(Historic, b"IINST 009  "), Ok(iinst));
+    // P6
+    let iinst = fields(b"IINST", b"", b"002");
+    assert_eq!(judge(Historic, b"IINST 002 Y"), Ok(iinst));
+    // P7
+    let content = b"SMAXSN\tH081225223518\t01200\t7";
+    assert_eq!(judge(Standard, content), Ok(smaxsn));
+    // P8: empty data.
+    let content = b"DATE\tH081225223518\t\tH";
+    assert_eq!(judge(Standard, content), Ok(fields(b"DATE", stamp, b"")));
+    // P9
+    assert_eq!(judge(Historic, b""), Err(Refusal::Misshapen));
+    assert_eq!(judge(Standard, b""), Err(Refusal::Misshapen));
+    assert_eq!(Refusal::CheckWrong.number(), 10);
+    assert_eq!(Refusal::Misshapen.number(), 9);
+}
+
+#[test]
+fn the_fields_are_parts_of_the_callers_own_bytes() {
+    let content = *b"SMAXSN\tH081225223518\t01200\t7";
+    let group = judge(Standard, &content).unwrap();
+    assert_eq!(group.label.as_ptr_range(), content[..6].as_ptr_range());
+    assert_eq!(group.stamp.as_ptr_range(), content[7..20].as_ptr_range());
+    assert_eq!(group.data.as_ptr_range(), content[21..26].as_ptr_range());
+}
+
+#[test]
+fn judging_refuses_with_19_before_8_before_the_rest() {
+    let long = [b'A'; 129];
+    for mode in [2, 3, 255, 256, 257, u32::MAX] {
+        for content in [&long[..], b"", b"URMS1\t230\t?"] {
+            assert_eq!(judge_raw(mode, content), Err(Refusal::ModeUnknown));
+        }
+    }
+    assert_eq!(Refusal::ModeUnknown.number(), 19);
+    assert_eq!(judge_raw(1, &long), Err(Refusal::TooLong));
+    assert_eq!(judge_raw(0, &long), Err(Refusal::TooLong));
+    assert_eq!(judge_raw(1, &long[..128]), Err(Refusal::Misshapen));
+    assert_eq!(
+        judge_raw(1, b"URMS1\t230\t?"),
+        Ok(fields(b"URMS1", b"", b"230"))
+    );
+    assert_eq!(
+        judge_raw(0, b"IINST 002 Y"),
+        Ok(fields(b"IINST", b"", b"002"))
+    );
+}
+
+#[test]
+fn judging_refuses_stamps_widths_and_kinds() {
+    let stamped = |stamp: &[u8]| content(Standard, b"UMOY1", stamp, b"230");
+    // P10 and P11: February has 29 days when YY divides by 4.
+    assert!(judge(Standard, &stamped(b"H080229000000")).is_ok());
+    assert_eq!(
+        judge(Standard, &stamped(b"H090229000000")),
+        Err(Refusal::StampWrong)
+    );
+    assert_eq!(judge(Standard, &stamped(b"")), Err(Refusal::StampWrong));
+    let plain = |data: &[u8]| content(Standard, b"URMS1", b"", data);
+    assert_eq!(judge(Standard, &plain(b"2X")), Err(Refusal::WidthWrong));
+    assert_eq!(judge(Standard, &plain(b"2X0")), Err(Refusal::KindWrong));
+    // "extra text is 13 or 14" where the label has no stamp.
+    let extra = content(Standard, b"URMS1", b"H081225223518", b"230");
+    assert_eq!(judge(Standard, &extra), Err(Refusal::WidthWrong));
+    // A label of the other mode, and a byte of 128 or more in the place of the final separator.
+    let other = content(Historic, b"URMS1", b"", b"230");
+    assert_eq!(judge(Historic, &other), Err(Refusal::LabelUnknown));
+    assert_eq!(judge(Historic, b"PAPP 00750\xA0-"), Err(Refusal::Misshapen));
+}
+
+/// Document 01's two lists: kind and width, "marked * is stamped", and the labels.
+const STANDARD: [&str; 21] = [
+    "T12 ADSC",
+    "T2 VTIC",
+    "T0* DATE",
+    "T16 NGTF LTARF",
+    "N9 EAST EAIT EASF01 EASF02 EASF03 EASF04 EASF05 EASF06 EASF07 EASF08 EASF09 EASF10",
+    "N9 EASD01 EASD02 EASD03 EASD04 ERQ1 ERQ2 ERQ3 ERQ4",
+    "N3 IRMS1 IRMS2 IRMS3 URMS1 URMS2 URMS3",
+    "N2 PREF PCOUP",
+    "N5 SINSTS SINSTS1 SINSTS2 SINSTS3 SINSTI",
+    "N5* SMAXSN SMAXSN1 SMAXSN2 SMAXSN3 SMAXSN-1 SMAXSN1-1 SMAXSN2-1 SMAXSN3-1",
+    "N5* SMAXIN SMAXIN-1",
+    "N5* CCASN CCASN-1 CCAIN CCAIN-1",
+    "N3* UMOY1 UMOY2 UMOY3",
+    "X8 STGE",
+    "N2* DPM1 DPM2 DPM3 FPM1 FPM2 FPM3",
+    "T32 MSG1",
+    "T16 MSG2",
+    "T14 PRM",
+    "N3 RELAIS",
+    "N2 NTARF NJOURF NJOURF+1",
+    "T98 PJOURF+1 PPOINTE",
+];
+const HISTORIC: [&str; 9] = [
+    "T12 ADCO",
+    "T4 OPTARIF PTEC DEMAIN",
+    "N2 ISOUSC PEJP",
+    "N9 BASE HCHC HCHP EJPHN EJPHPM BBRHCJB BBRHPJB BBRHCJW BBRHPJW BBRHCJR BBRHPJR",
+    "N3 IINST IINST1 IINST2 IINST3 ADPS ADIR1 ADIR2 ADIR3 IMAX IMAX1 IMAX2 IMAX3",
+    "N5 PAPP PMAX",
+    "T1 HHPHC",
+    "T6 MOTDETAT",
+    "T2 PPOT",
+];
+
+/// "The season is H or E; for DPM1 to DPM3 and FPM1 to FPM3 it is SP and nothing else."
+fn stamp_of(label: &str) -> &'static [u8] {
+    match label {
+        "DPM1" | "DPM2" | "DPM3" | "FPM1" | "FPM2" | "FPM3" => b" 081225223518",
+        "SMAXIN" | "UMOY2" | "CCAIN-1" => b"E080629223518",
+        _ => b"H081225223518",
+    }
+}
+
+/// Data of a kind and width, with the first and the last character of the kind in it.
+fn data_of(kind: &str, width: usize) -> Vec<u8> {
+    let characters: &[u8] = match kind {
+        "N" => b"09",
+        "X" => b"F0A9",
+        _ => b" ~@|",
+    };
+    characters.iter().copied().cycle().take(width).collect()
+}
+
+#[test]
+fn what_is_written_for_every_label_reads_back() {
+    let mut labels = [0, 0];
+    let historic = HISTORIC.iter().map(|row| (Historic, row));
+    let standard = STANDARD.iter().map(|row| (Standard, row));
+    for (mode, row) in historic.chain(standard) {
+        let mut words = row.split(' ');
+        let rule = words.next().unwrap();
+        let (kind, width) = rule.trim_end_matches('*').split_at(1);
+        let data = data_of(kind, width.parse().unwrap());
+        for label in words {
+            labels[mode.number() as usize] += 1;
+            let stamp = if rule.ends_with('*') {
+                stamp_of(label)
+            } else {
+                b""
+            };
+            let expected = fields(label.as_bytes(), stamp, &data);
+            let Group { label, stamp, data } = expected;
+            let content = content(mode, label, stamp, data);
+
+            // The writer's bytes are those that document 01's sentences make.
+            let written = write(mode, label, stamp, data).unwrap();
+            assert_eq!(written.as_bytes(), group(&content));
+            // Without the parity bits, LF and CR the reader is given what it was.
+            let bytes = written.as_bytes();
+            let characters: Vec<u8> = bytes.iter().map(|byte| byte & 0x7F).collect();
+            let inside = &characters[1..characters.len() - 1];
+            assert_eq!(judge(mode, inside), Ok(expected));
+            // So is a line.
+            let mut station = Station::new();
+            station.open(6, mode).unwrap();
+            station.deliver(6, &[STX]).unwrap();
+            station.deliver(6, bytes).unwrap();
+            station.deliver(6, &[ETX]).unwrap();
+            let mut round = station.round();
+            if bytes.len() > 63 {
+                assert_eq!(round.answer(6), None);
+                round = station.round();
+            }
+            let accepted = Answer::Accepted { label, stamp, data };
+            assert_eq!(round.answer(6), Some(accepted));
+            let sound = Answer::Told(Notice::FrameSound);
+            assert_eq!(station.round().answer(6), Some(sound));
+
+            // A stamp where there must be none, or none where there must be one, and data one too long.
+            let wrong: &[u8] = if stamp.is_empty() {
+                b"H081225223518"
+            } else {
+                b""
+            };
+            let long = [data, b"0"].concat();
+            assert_eq!(
+                write(mode, label, wrong, data).unwrap_err(),
+                Refusal::StampWrong
+            );
+            assert_eq!(
+                write(mode, label, stamp, &long).unwrap_err(),
+                Refusal::WidthWrong
+            );
+        }
+    }
+    assert_eq!(labels, [34, 71]);
+}
+
+#[test]
+fn the_group_of_the_listing_is_written_byte_for_byte() {
+    let written = write(Standard, b"URMS1", b"", b"230").unwrap();
+    let expected = b"\x0A\x55\xD2\x4D\x53\xB1\x09\xB2\x33\x30\x09\x3F\x8D";
+    assert_eq!(written.as_bytes(), expected);
+}
+
+#[test]
+fn writing_is_refused_in_the_order_19_11_12_13_14_15_and_changes_no_byte() {
+    let stamp = b"H081225223518";
+    // Mode, fields, room in the buffer, and the number. All is wrong at first; then fault after fault is mended.
+    let cases = [
+        (2, fields(b"NONE", stamp, b"2X"), 0, 19),
+        (1, fields(b"NONE", stamp, b"2X"), 0, 11),
+        (1, fields(b"URMS1", stamp, b"2X"), 0, 12),
+        (1, fields(b"URMS1", b"", b"2X"), 0, 13),
+        (1, fields(b"URMS1", b"", b"2X0"), 0, 14),
+        (1, fields(b"URMS1", b"", b"230"), 0, 15),
+        (1, fields(b"URMS1", b"", b"230"), 12, 15),
+        (256, fields(b"URMS1", b"", b"230"), 130, 19),
+        (0, fields(b"URMS1", b"", b"230"), 130, 11),
+        (1, fields(b"UMOY1", b"", b"230"), 130, 12),
+    ];
+    for (mode, Group { label, stamp, data }, room, number) in cases {
+        let mut buffer = [0xEE; 130];
+        let refusal = write_raw(mode, label, stamp, data, &mut buffer[..room]).unwrap_err();
+        assert_eq!(refusal.number(), number);
+        assert_eq!(buffer, [0xEE; 130]);
+    }
+    // Exact room; and more, of which "the rest" stays "unchanged".
+    for room in [13, 14, 130] {
+        let mut buffer = [0xEE; 130];
+        let length = write_raw(1, b"URMS1", b"", b"230", &mut buffer[..room]).unwrap();
+        assert_eq!(length, 13);
+        assert_eq!(buffer[..13], group(b"URMS1\t230\t?"));
+        assert_eq!(buffer[13..], [0xEE; 130 - 13]);
+    }
+}
+
+#[test]
+fn label_stamp_and_data_may_overlap_each_other() {
+    let text = b"MSG2MSG2MSG2MSG2";
+    let written = write(Standard, &text[..4], b"", text).unwrap();
+    let expected = content(Standard, b"MSG2", b"", text);
+    assert_eq!(written.as_bytes(), group(&expected));
+}
+
+#[test]
+fn a_refusal_has_one_of_the_numbers_8_to_19_and_says_it() {
+    for number in 0..300 {
+        let refusal = Refusal::from_number(number);
+        let expected = (8..=19).contains(&number).then_some(number);
+        assert_eq!(refusal.map(Refusal::number), expected);
+        if let Some(refusal) = refusal {
+            let said: Box<dyn std::error::Error> = refusal.into();
+            assert!(said.to_string().ends_with(&format!("({number})")));
+        }
+    }
+    assert_eq!((Historic.number(), Standard.number()), (0, 1));
+}

@@ -1,0 +1,83 @@
+//! "One line": each of the numbers 1 to 14, as a line tells them.
+
+use crate::wire::{content, frame, group, listing, CR, EOT, ETX, LF, STX};
+use tic::{Mode, Notice};
+
+const P1: &[u8] = b"URMS1\t230\t?";
+
+#[test]
+fn frames_end_unflawed_or_flawed() {
+    assert_eq!(listing(Mode::Standard, &[STX, ETX]), ["2"]);
+    // "Any other byte in a frame, CR included, sets the flaw", and the next STX clears it.
+    assert_eq!(
+        listing(Mode::Standard, &[STX, CR, ETX, STX, ETX]),
+        ["3", "2"]
+    );
+    // "ETX .. From a group: 3"
+    assert_eq!(listing(Mode::Standard, &[STX, LF, ETX]), ["3"]);
+    // "From outside: nothing."
+    assert!(listing(Mode::Standard, &[ETX, EOT, LF, CR]).is_empty());
+}
+
+#[test]
+fn frames_are_interrupted_and_restarted() {
+    assert_eq!(
+        listing(Mode::Standard, &[STX, EOT, STX, LF, EOT]),
+        ["4", "4"]
+    );
+    assert_eq!(
+        listing(Mode::Standard, &[STX, STX, LF, STX, ETX]),
+        ["5", "5", "2"]
+    );
+}
+
+#[test]
+fn groups_are_restarted_and_damaged() {
+    let whole = group(P1);
+    let restarted = [&[STX, LF][..], &whole, &[ETX]].concat();
+    assert_eq!(
+        listing(Mode::Standard, &restarted),
+        ["6", "1 URMS1 - 230", "3"]
+    );
+    // A byte with the wrong parity in a group; a damaged LF in a frame is no LF, and flaws the frame.
+    let mut damaged = whole.clone();
+    damaged[3] ^= 0x80;
+    let bytes = [&[STX][..], &damaged, &[ETX, STX, LF ^ 0x80, ETX]].concat();
+    assert_eq!(listing(Mode::Standard, &bytes), ["7", "3", "3"]);
+}
+
+#[test]
+fn a_refused_group_flaws_its_frame() {
+    // Each content, made right but for the one thing, and the number that it is refused with.
+    let standard = |label: &[u8], data: &[u8]| content(Mode::Standard, label, b"", data);
+    let cases: [(Vec<u8>, u32); 8] = [
+        (vec![b'A'; 129], 8),
+        (vec![b'A'; 128], 9),
+        (Vec::new(), 9),
+        (b"URMS1\t230\t6".to_vec(), 10), // P2
+        (standard(b"PAPP", b"00750"), 11),
+        (
+            content(Mode::Standard, b"UMOY1", b"H090229000000", b"230"),
+            12,
+        ), // P11
+        (standard(b"URMS1", b"2X"), 13),
+        (standard(b"URMS1", b"2X0"), 14),
+    ];
+    for (refused, number) in cases {
+        let bytes = frame(&[&refused, P1]);
+        assert_eq!(
+            listing(Mode::Standard, &bytes),
+            [&number.to_string(), "1 URMS1 - 230", "3"]
+        );
+        assert_eq!(Notice::from_number(number).unwrap().number(), number);
+    }
+}
+
+#[test]
+fn a_notice_has_one_of_the_numbers_2_to_14() {
+    for number in 0..300 {
+        let notice = Notice::from_number(number);
+        let expected = (2..=14).contains(&number).then_some(number);
+        assert_eq!(notice.map(Notice::number), expected);
+    }
+}

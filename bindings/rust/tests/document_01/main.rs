@@ -1,0 +1,11 @@
+//! Document 01's sentences and figures, tried through the bindings.
+//!
+//! 18, "sheet under 1,080 bytes", can't be reached from here: a round brings its own sheet. The crate's own tests, in
+//! src/boundary.rs, hand in a shorter one.
+
+#![forbid(unsafe_code)] // a caller needs none
+
+mod groups;
+mod lines;
+mod station;
+mod wire;
