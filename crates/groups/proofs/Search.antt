@@ -1,22 +1,19 @@
--- Looking a label up: among the rows of an array, and in the pieces of the table one after the other.
-use mathlib.Core.Path.{_≡_, refl, sym, ap, _∙_, subst}
+-- Looking a label up: among the rows of an array, and in the arrays one after the other.
+use mathlib.Core.Path.{_≡_, refl, _∙_}
 use mathlib.Core.Bool.{Bool, true, false}
-use mathlib.Core.Option.{Option, none, some}
+use mathlib.Core.Option.{none, some}
 use mathlib.Core.List.{List, [], _∷_, _++_, map}
-use Prim.Native.Nat.{ℕ, zero, suc, _+_, _-_, _<_, _≤_}
+use Prim.Native.Nat.{ℕ, _+_, _<_, _≤_}
 use native.Mathlib.Numerals.{add-one}
 use native.Mathlib.Omega.{arith}
-use lib.Dec.{T, leb, leb→le}
+use lib.Dec.{T, leb→le}
 use lib.ListN.{length, getD, take, drop, length-take, drop-of-length-le}
-use lib.Seq.{drop-cons, getD-take, length-take-le}
+use lib.Seq.{drop-cons, getD-take, take-add}
 use Rattle.characters.specs.Answers.{every, every-at, pick}
-use Rattle.groups.specs.Table.{Entry, same, lookup, rows, historicRows, standardRows}
-use Rattle.groups.specs.Inside.{entryOf, labelFits, pieces, piece, joined, between}
-use Rattle.groups.specs.Laws.Tests.{not-some}
-use Rattle.groups.specs.declared.Mode.{Mode}
-use Rattle.groups.specs.declared.Mode.the-variants.{Historic, Standard}
+use Rattle.groups.specs.Table.{Entry, same, lookup}
+use Rattle.groups.specs.Inside.{entryOf, labelFits, foundOf, orElse}
+use Rattle.groups.specs.declared.find.Found.{Found}
 use Rattle.groups.specs.declared.table.Row.{Row}
-use Rattle.groups.specs.declared.table.Rule.{Rule}
 
 -- ---- The rows of an array
 
@@ -45,53 +42,20 @@ pub search-over : (l : List ℕ) (rows : List Row) (count i : ℕ) → count ≤
 unfolding lookup
 search-over l rows count i h = rw (drop-of-length-le (take count rows) {i = i} (simp length-take (omega arith)))
 
--- ---- The pieces of the table
+-- ---- The rows of one array after the other
 
-lookup-some : (l : List ℕ) (a b : List Entry) (r : Rule) → lookup l a ≡ some r → lookup l (a ++ b) ≡ some r
+joined : (l : List ℕ) (a b : List Entry) → orElse (foundOf (lookup l a)) (lookup l b) ≡ foundOf (lookup l (a ++ b))
 unfolding lookup pick
-lookup-some l [] b r e = not-some e
-lookup-some l (x ∷ a) b r e = go (same l (x .label)) (lookup-some l a b r) e
+joined l [] b = refl
+joined l (x ∷ a) b = go (same l (x .label)) (joined l a b)
   where
-    go : (t : Bool) → (lookup l a ≡ some r → lookup l (a ++ b) ≡ some r)
-        → pick t (some (x .rule)) (lookup l a) ≡ some r → pick t (some (x .rule)) (lookup l (a ++ b)) ≡ some r
-    go true f e = e
-    go false f e = f e
+    go : (t : Bool) → orElse (foundOf (lookup l a)) (lookup l b) ≡ foundOf (lookup l (a ++ b))
+        → orElse (foundOf (pick t (some (x .rule)) (lookup l a))) (lookup l b)
+        ≡ foundOf (pick t (some (x .rule)) (lookup l (a ++ b)))
+    go true e = refl
+    go false e = e
 
-lookup-none : (l : List ℕ) (a b : List Entry) → lookup l a ≡ none → lookup l (a ++ b) ≡ lookup l b
-unfolding lookup pick
-lookup-none l [] b e = refl
-lookup-none l (x ∷ a) b e = go (same l (x .label)) (lookup-none l a b) e
-  where
-    go : (t : Bool) → (lookup l a ≡ none → lookup l (a ++ b) ≡ lookup l b)
-        → pick t (some (x .rule)) (lookup l a) ≡ none → pick t (some (x .rule)) (lookup l (a ++ b)) ≡ lookup l b
-    go true f e = not-some (sym e)
-    go false f e = f e
-
-pieces-length : length pieces ≡ 12
-unfolding pieces
-pieces-length = refl
-
-between-on : (i e : ℕ) → i < e → e ≤ 12 → between i e ≡ piece i ++ between (i + 1) e
-between-on i e h k =
-    let n : e - i ≡ suc (e - (i + 1)) = omega arith in
-    rw (n, drop-cons pieces i [] (rw pieces-length (omega arith)), add-one i)
-
-module _ (l : List ℕ) (i e : ℕ) where
-  pub piece-here : (r : Rule) → i < e → e ≤ 12 → lookup l (piece i) ≡ some r → lookup l (between i e) ≡ some r
-  piece-here r h k t = rw (between-on i e h k) (lookup-some l (piece i) (between (i + 1) e) r t)
-
-  pub piece-on : i < e → e ≤ 12 → lookup l (piece i) ≡ none → lookup l (between i e) ≡ lookup l (between (i + 1) e)
-  piece-on h k t = rw (between-on i e h k) (lookup-none l (piece i) (between (i + 1) e) t)
-
-  pub piece-over : e ≤ i → lookup l (between i e) ≡ none
-  unfolding lookup
-  piece-over h = let z : e - i ≡ 0 = omega arith in rw z
-
--- each mode's list is its pieces
-pub historic-pieces : between 0 4 ≡ rows Historic
-unfolding pieces historicRows
-historic-pieces = refl
-
-pub standard-pieces : between 4 12 ≡ rows Standard
-unfolding pieces standardRows
-standard-pieces = refl
+-- what the first n rows of a list hold of a label, and then the nine behind them, is what the first n + 9 hold
+pub nine-more : {found r : Found} (l : List ℕ) (rows : List Entry) (n : ℕ) → found ≡ foundOf (lookup l (take n rows))
+    → r ≡ orElse found (lookup l (take 9 (drop n rows))) → r ≡ foundOf (lookup l (take (n + 9) rows))
+nine-more l rows n e h = h ∙ rw (e, take-add n 9 rows) (joined l (take n rows) (take 9 (drop n rows)))

@@ -14,7 +14,8 @@ use Rattle.groups.specs.Modes.{separator, countedAtEnd}
 use Rattle.groups.specs.Table.{same}
 use Rattle.groups.specs.Groups.{total, check}
 use Rattle.groups.specs.Conditions.{firstAt}
-use Rattle.groups.specs.Inside.{wrongAt, checkFrom}
+use Rattle.groups.specs.Inside.{wrongAt, checkFrom, FrontSum}
+use Rattle.groups.specs.Laws.Conditions.{front-behind}
 use Rattle.groups.specs.declared.Mode.{Mode}
 use Rattle.groups.specs.declared.Mode.the-variants.{Historic, Standard}
 
@@ -88,7 +89,21 @@ total-append (x ∷ l) b = omega (arith, total-append l b)
 
 pub check-from : (m : Mode) (l b : List ℕ) → checkFrom m l (total b) ≡ check m l b
 unfolding check checkFrom
-check-from m l b = let e : total l + separator m + total b + countedAtEnd m ≡ total (l ++ separator m ∷ b) + countedAtEnd m = omega (arith, total-append l (separator m ∷ b)) in rw e
+check-from m l b =
+    let e : total l + separator m + total b + countedAtEnd m ≡ total (l ++ separator m ∷ b) + countedAtEnd m =
+    omega (arith, total-append l (separator m ∷ b)) in
+    rw e
+
+-- the check character from the sum of all but the last two characters
+pub check-front : (m : Mode) (l rest : List ℕ) (front : ℕ) → FrontSum m l rest front → 2 ≤ length rest
+    → (front + countedAtEnd m) % 64 + 32 ≡ check m l (take (length rest - 2) rest)
+unfolding check
+check-front m l rest front f h = rw (f .front-is h)
+
+pub front-summed : (m : Mode) (c : List ℕ) (f front : ℕ) → f ≡ firstAt (separator m) c
+    → (front ≡ total (take (length c - 2) c)) × (front ≤ 32640) → FrontSum m (take f c) (drop (f + 1) c) front
+front-summed m c f front e s =
+    record { small = s .1; front-is = λ h. s .0 ∙ ap total (front-behind (separator m) c f e h) }
 
 pub separator-small : (m : Mode) → separator m ≤ 32
 separator-small Historic = omega arith

@@ -4,13 +4,13 @@ use mathlib.Core.Path.{_≡_}
 use mathlib.Core.Bool.{Bool}
 use mathlib.Core.Option.{Option, none, some}
 use mathlib.Core.List.{List, [], _∷_, _++_}
-use Prim.Native.Nat.{ℕ, zero, suc, _+_, _-_, _%_, _≤_}
+use Prim.Native.Nat.{ℕ, suc, _+_, _-_, _%_, _≤_}
 use lib.Dec.{T as So, leb}
-use lib.ListN.{length, take, drop, getD}
+use lib.ListN.{length, take}
 use lib.Seq.{sets}
 use Rattle.characters.specs.Answers.{Answer, refused, given, pick}
 use Rattle.groups.specs.Modes.{separator, countedAtEnd}
-use Rattle.groups.specs.Table.{Entry, historicRows, standardRows}
+use Rattle.groups.specs.Table.{Entry}
 use Rattle.groups.specs.Stamps.{isStamped, stampRight}
 use Rattle.groups.specs.Fields.{longest, widthRight, kindRight, checked}
 use Rattle.groups.specs.Groups.{Group, content, body, total}
@@ -36,6 +36,11 @@ abbrev pub foundOf : Option Rule → Found
 foundOf none = Unlisted
 foundOf (some rule) = Listed rule
 
+-- what was found before, or else what is found now
+abbrev pub orElse : Found → Option Rule → Found
+orElse (Listed rule) now = Listed rule
+orElse Unlisted now = foundOf now
+
 abbrev pub verdictOf : {A : Type 0} → Answer Refusal A → Verdict
 verdictOf (refused refusal) = Refused refusal
 verdictOf (given a) = Accepted
@@ -53,34 +58,6 @@ entryOf r = record { label = take (r .1) (r .0); rule = record { width = r .2; k
 abbrev pub labelFits : Row → Bool
 labelFits r = leb (r .1) 9
 
--- the lists in pieces of nine rows, the last piece of each list shorter
-unfoldable pub pieces : List (List Entry)
-pieces =
-    take 9 historicRows
-    ∷ take 9 (drop 9 historicRows)
-    ∷ take 9 (drop 18 historicRows)
-    ∷ drop 27 historicRows
-    ∷ take 9 standardRows
-    ∷ take 9 (drop 9 standardRows)
-    ∷ take 9 (drop 18 standardRows)
-    ∷ take 9 (drop 27 standardRows)
-    ∷ take 9 (drop 36 standardRows)
-    ∷ take 9 (drop 45 standardRows)
-    ∷ take 9 (drop 54 standardRows)
-    ∷ drop 63 standardRows
-    ∷ []
-
-abbrev pub piece : ℕ → List Entry
-piece i = getD pieces i []
-
-abbrev pub joined : List (List Entry) → List Entry
-joined [] = []
-joined (p ∷ ps) = p ++ joined ps
-
--- the pieces from one number up to another
-abbrev pub between : ℕ → ℕ → List Entry
-between i e = joined (take (e - i) (drop i pieces))
-
 -- ---- Walks
 
 -- the place of the first element that fails a test; the length where none does
@@ -91,6 +68,11 @@ wrongAt f (x ∷ xs) = pick (f x) (suc (wrongAt f xs)) 0
 -- the check character from the sum of the body
 unfoldable pub checkFrom : Mode → List ℕ → ℕ → ℕ
 checkFrom m label rest = (total label + separator m + rest + countedAtEnd m) % 64 + 32
+
+-- the sum of a label, its separator and what follows up to the last two characters, where there are two
+pub record FrontSum (m : Mode) (label rest : List ℕ) (front : ℕ) : Type 0 where
+  pub small : front ≤ 32640
+  pub front-is : 2 ≤ length rest → front ≡ total (label ++ separator m ∷ take (length rest - 2) rest)
 
 -- ---- Writing
 

@@ -10,3 +10,4 @@ pub mod Shown
 pub mod Conditions
 pub mod OnTheWire
 pub mod ByNumber
+pub mod Unknown

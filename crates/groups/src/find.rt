@@ -9,8 +9,8 @@ ghost use Prim.Native.Nat.{_≤_, _<_};
 ghost use lib.Dec.{T as So};
 ghost use lib.ListN.{take};
 ghost use Rattle.characters.specs.Answers.{every};
-ghost use Rattle.groups.specs.Table.{same, lookup, rows};
-ghost use Rattle.groups.specs.Inside.{foundOf, entryOf, labelFits, piece, between};
+ghost use Rattle.groups.specs.Table.{same, lookup, rows, historicRows, standardRows};
+ghost use Rattle.groups.specs.Inside.{foundOf, orElse, entryOf, labelFits};
 
 pub(crate) enum Found {
     Listed(Rule),
@@ -43,12 +43,15 @@ fn is_named(label: &[u8], row: Row) -> bool
     are_same(label, &bytes[..n])
 }
 
-// The rule of the label among the first rows of an array, as many as count says. The array comes by value, so that it is
-// built once for the whole search.
-fn search(label: &[u8], rows: [Row; 9], count: usize) -> Found
+// The rule of the label among the first rows of an array, as many as count says; what was found before stands. The array
+// comes by value, so that it is built once for the whole search.
+fn search(label: &[u8], found: Found, rows: [Row; 9], count: usize) -> Found
     requires { ⌜ (count ≤ 9) × So (every labelFits rows) ⌝ }
-    ensures { λ r. ⌜ r ≡ foundOf (lookup (now (label .entry)) (map entryOf (take count rows))) ⌝ }
+    ensures { λ r. ⌜ r ≡ orElse found (lookup (now (label .entry)) (map entryOf (take count rows))) ⌝ }
 {
+    if let Found::Listed(rule) = found {
+        return Found::Listed(rule);
+    }
     let mut i = 0;
     while i < count {
         let row = rows[i];
@@ -63,133 +66,37 @@ fn search(label: &[u8], rows: [Row; 9], count: usize) -> Found
     Found::Unlisted
 }
 
-fn historic_1(label: &[u8]) -> Found
-    ensures { λ r. ⌜ r ≡ foundOf (lookup (now (label .entry)) (piece 0)) ⌝ }
+// The rule of a label in the list of historic mode. No loop goes over the arrays: where they are searched in a row, the
+// compiler sees every row at once, and makes one tree of tests on the label's length and letters out of them.
+fn historic(label: &[u8]) -> Found
+    ensures { λ r. ⌜ r ≡ foundOf (lookup (now (label .entry)) historicRows) ⌝ }
 {
-    search(label, table::HISTORIC_1, 9)
+    let found = search(label, Found::Unlisted, table::HISTORIC_1, 9);
+    let found = search(label, found, table::HISTORIC_2, 9);
+    let found = search(label, found, table::HISTORIC_3, 9);
+    search(label, found, table::HISTORIC_4, 7)
 }
 
-fn historic_2(label: &[u8]) -> Found
-    ensures { λ r. ⌜ r ≡ foundOf (lookup (now (label .entry)) (piece 1)) ⌝ }
+// The same in the first half of the list of standard mode. It stands apart since the prover takes longer over eight arrays
+// in one function than over four in each of two.
+fn standard_half(label: &[u8]) -> Found
+    ensures { λ r. ⌜ r ≡ foundOf (lookup (now (label .entry)) (take 36 standardRows)) ⌝ }
 {
-    search(label, table::HISTORIC_2, 9)
+    let found = search(label, Found::Unlisted, table::STANDARD_1, 9);
+    let found = search(label, found, table::STANDARD_2, 9);
+    let found = search(label, found, table::STANDARD_3, 9);
+    search(label, found, table::STANDARD_4, 9)
 }
 
-fn historic_3(label: &[u8]) -> Found
-    ensures { λ r. ⌜ r ≡ foundOf (lookup (now (label .entry)) (piece 2)) ⌝ }
+// The same in the whole list.
+fn standard(label: &[u8]) -> Found
+    ensures { λ r. ⌜ r ≡ foundOf (lookup (now (label .entry)) standardRows) ⌝ }
 {
-    search(label, table::HISTORIC_3, 9)
-}
-
-fn historic_4(label: &[u8]) -> Found
-    ensures { λ r. ⌜ r ≡ foundOf (lookup (now (label .entry)) (piece 3)) ⌝ }
-{
-    search(label, table::HISTORIC_4, 7)
-}
-
-fn standard_1(label: &[u8]) -> Found
-    ensures { λ r. ⌜ r ≡ foundOf (lookup (now (label .entry)) (piece 4)) ⌝ }
-{
-    search(label, table::STANDARD_1, 9)
-}
-
-fn standard_2(label: &[u8]) -> Found
-    ensures { λ r. ⌜ r ≡ foundOf (lookup (now (label .entry)) (piece 5)) ⌝ }
-{
-    search(label, table::STANDARD_2, 9)
-}
-
-fn standard_3(label: &[u8]) -> Found
-    ensures { λ r. ⌜ r ≡ foundOf (lookup (now (label .entry)) (piece 6)) ⌝ }
-{
-    search(label, table::STANDARD_3, 9)
-}
-
-fn standard_4(label: &[u8]) -> Found
-    ensures { λ r. ⌜ r ≡ foundOf (lookup (now (label .entry)) (piece 7)) ⌝ }
-{
-    search(label, table::STANDARD_4, 9)
-}
-
-fn standard_5(label: &[u8]) -> Found
-    ensures { λ r. ⌜ r ≡ foundOf (lookup (now (label .entry)) (piece 8)) ⌝ }
-{
-    search(label, table::STANDARD_5, 9)
-}
-
-fn standard_6(label: &[u8]) -> Found
-    ensures { λ r. ⌜ r ≡ foundOf (lookup (now (label .entry)) (piece 9)) ⌝ }
-{
-    search(label, table::STANDARD_6, 9)
-}
-
-fn standard_7(label: &[u8]) -> Found
-    ensures { λ r. ⌜ r ≡ foundOf (lookup (now (label .entry)) (piece 10)) ⌝ }
-{
-    search(label, table::STANDARD_7, 9)
-}
-
-fn standard_8(label: &[u8]) -> Found
-    ensures { λ r. ⌜ r ≡ foundOf (lookup (now (label .entry)) (piece 11)) ⌝ }
-{
-    search(label, table::STANDARD_8, 8)
-}
-
-// The same in the array of this number, the historic ones first.
-fn search_piece(label: &[u8], number: usize) -> Found
-    requires { ⌜ number < 12 ⌝ }
-    ensures { λ r. ⌜ r ≡ foundOf (lookup (now (label .entry)) (piece number)) ⌝ }
-{
-    if number < 1 {
-        return historic_1(label);
-    }
-    if number < 2 {
-        return historic_2(label);
-    }
-    if number < 3 {
-        return historic_3(label);
-    }
-    if number < 4 {
-        return historic_4(label);
-    }
-    if number < 5 {
-        return standard_1(label);
-    }
-    if number < 6 {
-        return standard_2(label);
-    }
-    if number < 7 {
-        return standard_3(label);
-    }
-    if number < 8 {
-        return standard_4(label);
-    }
-    if number < 9 {
-        return standard_5(label);
-    }
-    if number < 10 {
-        return standard_6(label);
-    }
-    if number < 11 {
-        return standard_7(label);
-    }
-    standard_8(label)
-}
-
-// The same in the arrays from one number up to another.
-fn search_between(label: &[u8], from: usize, to: usize) -> Found
-    requires { ⌜ (from ≤ to) × (to ≤ 12) ⌝ }
-    ensures { λ r. ⌜ r ≡ foundOf (lookup (now (label .entry)) (between from to)) ⌝ }
-{
-    let mut i = from;
-    while i < to {
-        let found = search_piece(label, i);
-        if let Found::Listed(rule) = found {
-            return Found::Listed(rule);
-        }
-        i += 1;
-    }
-    Found::Unlisted
+    let found = standard_half(label);
+    let found = search(label, found, table::STANDARD_5, 9);
+    let found = search(label, found, table::STANDARD_6, 9);
+    let found = search(label, found, table::STANDARD_7, 9);
+    search(label, found, table::STANDARD_8, 8)
 }
 
 // The rule of a label in a mode's list.
@@ -197,7 +104,7 @@ pub(crate) fn find(mode: Mode, label: &[u8]) -> Found
     ensures { λ r. ⌜ r ≡ foundOf (lookup (now (label .entry)) (rows mode)) ⌝ }
 {
     match mode {
-        Mode::Historic => search_between(label, 0, 4),
-        Mode::Standard => search_between(label, 4, 12),
+        Mode::Historic => historic(label),
+        Mode::Standard => standard(label),
     }
 }

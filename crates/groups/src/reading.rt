@@ -11,14 +11,15 @@ use crate::modes;
 use crate::stamps;
 use crate::table::Rule;
 ghost use mathlib.Core.Path.{_≡_};
-ghost use Prim.Native.Nat.{_+_, _*_, _%_, _≤_, _<_};
-ghost use lib.ListN.{length};
+ghost use Prim.Native.Nat.{_+_, _-_, _*_, _%_, _≤_, _<_};
+ghost use lib.ListN.{length, take};
 ghost use Rattle.characters.specs.Answers.{refused, given};
 ghost use Rattle.groups.specs.Fields.{checked};
-ghost use Rattle.groups.specs.Groups.{total, check, groupOf, fieldsOf, behindLabel, read as readOf};
+ghost use Rattle.groups.specs.Modes.{countedAtEnd};
+ghost use Rattle.groups.specs.Groups.{total, groupOf, fieldsOf, behindLabel, read as readOf};
 ghost use Rattle.groups.specs.Conditions.{firstAt};
 ghost use Rattle.groups.specs.Judging.{shown, stampSpan, stampStretch};
-ghost use Rattle.groups.specs.Inside.{checkFrom};
+ghost use Rattle.groups.specs.Inside.{checkFrom, FrontSum};
 
 // The sum of the codes.
 pub(crate) fn sum(text: &[u8]) -> u32
@@ -48,21 +49,35 @@ fn first(text: &[u8], code: u8) -> usize
     i
 }
 
+// The sum of all characters of a content but the last two: of the label, its separator and the body.
+fn front_sum(content: &[u8]) -> u32
+    requires { ⌜ length (now content) ≤ 128 ⌝ }
+    ensures { λ r. ⌜ (r ≡ total (take (length (now (content .entry)) - 2) (now (content .entry)))) × (r ≤ 32640) ⌝ }
+{
+    let n = content.len();
+    if n < 2 {
+        return 0;
+    }
+    let end = n - 2;
+    sum(&content[..end])
+}
+
+// The check character of a label, its separator and a body, from the sum of them all.
+fn check_by(mode: Mode, front: u32) -> u8
+    requires { ⌜ front ≤ 200000 ⌝ }
+    ensures { λ r. ⌜ r ≡ (front + countedAtEnd mode) % 64 + 32 ⌝ }
+{
+    let end = modes::counted_at_end(mode) as u32;
+    ((front + end) % 64) as u8 + 32
+}
+
 // The check character of a label and a body of which `rest` is the sum.
 pub(crate) fn check_from(mode: Mode, label: &[u8], rest: u32) -> u8
     requires { ⌜ (length (now label) ≤ 128) × (rest ≤ 100000) ⌝ }
     ensures { λ r. ⌜ r ≡ checkFrom mode (now (label .entry)) rest ⌝ }
 {
     let separator = modes::separator_of(mode) as u32;
-    let end = modes::counted_at_end(mode) as u32;
-    ((sum(label) + separator + rest + end) % 64) as u8 + 32
-}
-
-fn check_of(mode: Mode, label: &[u8], body: &[u8]) -> u8
-    requires { ⌜ (length (now label) ≤ 128) × (length (now body) ≤ 128) ⌝ }
-    ensures { λ r. ⌜ r ≡ check mode (now (label .entry)) (now (body .entry)) ⌝ }
-{
-    check_from(mode, label, sum(body))
+    check_by(mode, sum(label) + separator + rest)
 }
 
 pub(crate) fn refuse(refusal: Refusal) -> Judged
@@ -159,9 +174,10 @@ fn fields_of(mode: Mode, rule: Rule, label: &[u8], body: &[u8]) -> Judged
     finish(rule, label, &body[..0], body)
 }
 
-// A label, and all that stands behind its separator.
-fn behind_label(mode: Mode, label: &[u8], rest: &[u8]) -> Judged
-    requires { ⌜ (length (now label) ≤ 128) × (length (now rest) ≤ 128) ⌝ }
+// A label, all that stands behind its separator, and the sum of all but the last two of these characters: one sum for
+// the whole content is quicker than one for each part.
+fn behind_label(mode: Mode, label: &[u8], rest: &[u8], front: u32) -> Judged
+    requires { ⌜ FrontSum mode (now label) (now rest) front ⌝ }
     ensures { λ r. ⌜ r ≡ shown (behindLabel mode (now (label .entry)) (now (rest .entry))) ⌝ }
 {
     let n = rest.len();
@@ -173,7 +189,7 @@ fn behind_label(mode: Mode, label: &[u8], rest: &[u8]) -> Judged
         return refuse(Refusal::Misshapen);
     }
     let body = &rest[..end];
-    if rest[n - 1] != check_of(mode, label, body) {
+    if rest[n - 1] != check_by(mode, front) {
         return refuse(Refusal::CheckWrong);
     }
     let found = find::find(mode, label);
@@ -198,5 +214,5 @@ pub(crate) fn read(mode: Mode, content: &[u8]) -> Judged
         return refuse(Refusal::Misshapen);
     }
     let next = at + 1;
-    behind_label(mode, &content[..at], &content[next..])
+    behind_label(mode, &content[..at], &content[next..], front_sum(content))
 }

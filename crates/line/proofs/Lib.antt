@@ -1,3 +1,4 @@
 -- Laws that only the proofs of functions need.
 pub mod Reactions
 pub mod Feeding
+pub mod Rows

@@ -6,6 +6,7 @@ pub mod Between
 pub mod Numbers
 pub mod State
 pub mod Steps
+pub mod Runs
 pub mod Views
 pub mod Laws
 pub mod Promises

@@ -76,7 +76,7 @@ FieldsInside (Told notice) = Unit {0}
 -- ---- The numbers of a line, and back
 
 -- a mark that is written reads as it was
-mark-back : (b : Bool) → isSet (boolByte b) ≡ b
+pub mark-back : (b : Bool) → isSet (boolByte b) ≡ b
 mark-back true = refl
 mark-back false = refl
 

@@ -10,8 +10,7 @@ use crate::state;
 use groups::Refusal;
 use groups::Verdict;
 ghost use mathlib.Core.Path.{_≡_};
-ghost use Prim.Native.Nat.{_≤_};
-ghost use lib.ListN.{length};
+ghost use lib.ListN.{take};
 ghost use Rattle.line.specs.Steps.{heardOf, endedOf, quietOf, Stepped, stepped};
 
 // What a byte did: the line afterwards, and what it gave.
@@ -20,10 +19,19 @@ pub struct Reaction {
     pub heard: Heard,
 }
 
+// The first bytes of a text, as many as `count` says; all of them where it has no more.
+fn front(text: &[u8], count: usize) -> &[u8]
+    ensures { λ r. ⌜ now r ≡ take count (now (text .entry)) ⌝ }
+{
+    if text.len() < count {
+        return text;
+    }
+    &text[..count]
+}
+
 // What a group that is complete gives.
-fn judged(mode: u8, damaged: bool, overlong: bool, content: [u8; 128], length: usize) -> Heard
-    requires { ⌜ length ≤ 128 ⌝ }
-    ensures { λ r. ⌜ r ≡ heardOf mode damaged overlong content length ⌝ }
+fn judged(mode: u8, damaged: bool, overlong: bool, content: &[u8], length: usize) -> Heard
+    ensures { λ r. ⌜ r ≡ heardOf mode damaged overlong (now (content .entry)) length ⌝ }
 {
     if damaged {
         return Heard::Told(Notice::GroupDamaged);
@@ -31,7 +39,7 @@ fn judged(mode: u8, damaged: bool, overlong: bool, content: [u8; 128], length: u
     if overlong {
         return Heard::Told(Notice::GroupRefused(Refusal::TooLong));
     }
-    let judged = groups::judge(mode, &content[..length]);
+    let judged = groups::judge(mode, front(content, length));
     let verdict = judged.verdict;
     let label = judged.label;
     let stamp = judged.stamp;
@@ -85,11 +93,10 @@ pub(crate) fn step(line: LineState, content: &mut [u8; 128], byte: u8) -> Reacti
             }
         }
         Move::Judges(flaw, damaged, overlong) => {
-            let held = *content;
             ended(
                 mode,
                 flaw,
-                judged(mode, damaged, overlong, held, length as usize),
+                judged(mode, damaged, overlong, content, length as usize),
             )
         }
     }

@@ -1,9 +1,9 @@
 -- The ways through `open`, over plain variables.
-use mathlib.Core.Path.{_≡_, sym, _∙_}
+use mathlib.Core.Path.{_≡_, sym, ap}
 use mathlib.Core.List.{List}
 use Prim.Native.Nat.{ℕ, _≤_, _<_}
 use lib.ListN.{set}
-use borrow.Author.Tests.{lt-ltb, le-ltb}
+use borrow.Author.Tests.{lt-ltb}
 use Rattle.characters.specs.Answers.{need}
 use Rattle.line.specs.State.{openingOf}
 use Rattle.line.specs.declared.LineState.{LineState}
@@ -11,6 +11,7 @@ use Rattle.line.specs.declared.Opening.{Opening}
 use Rattle.line.specs.declared.Opening.the-variants as line
 use Rattle.station.specs.Lines.{openedAs}
 use Rattle.station.specs.Stations.{lineAt, called, opening, delivering}
+use Rattle.station.specs.Laws.Refusals.{opening-no-line, delivering-no-line}
 use Rattle.station.specs.declared.StationLine.{StationLine}
 use Rattle.station.specs.declared.Station.{Station}
 use Rattle.station.specs.declared.Called.{Called}
@@ -34,10 +35,8 @@ module _ (s : Station) (i mode : ℕ) (o : Opening) (e : o ≡ openingOf mode) w
 -- 16
 pub open-no-line : (s : Station) (i mode : ℕ) → 8 ≤ i
     → _≡_ {A = Called} (record { station = s; reply = Refused LineUnknown }) (called s (opening s i mode))
-unfolding opening need
-open-no-line s i mode h = rw (le-ltb i 8 h)
+open-no-line s i mode h = ap (called s) (sym (opening-no-line s i mode h))
 
 pub deliver-no-line : (s : Station) (i : ℕ) (bytes : List ℕ) → 8 ≤ i
     → _≡_ {A = Called} (record { station = s; reply = Refused LineUnknown }) (called s (delivering s i bytes))
-unfolding delivering need
-deliver-no-line s i bytes h = rw (le-ltb i 8 h)
+deliver-no-line s i bytes h = ap (called s) (sym (delivering-no-line s i bytes h))

@@ -7,3 +7,4 @@ pub mod Calls
 pub mod Accounts
 pub mod Numbers
 pub mod Rounds
+pub mod Refusals

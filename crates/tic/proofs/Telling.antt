@@ -1,5 +1,5 @@
 -- What an exported function tells, from what the function below it told, over plain variables.
-use mathlib.Core.Path.{_≡_, _∙_, ap}
+use mathlib.Core.Path.{_≡_, _∙_, sym, ap}
 use mathlib.Core.List.{List}
 use Prim.Native.Nat.{ℕ}
 use Rattle.characters.specs.Answers.{Answer}
@@ -10,6 +10,7 @@ use Rattle.groups.specs.declared.Judged.{Judged}
 use Rattle.groups.specs.declared.Written.{Written}
 use Rattle.station.specs.Numbers as station
 use Rattle.station.specs.Rounds.{Round, round}
+use Rattle.station.specs.Laws.Refusals.{serves-round}
 use Rattle.station.specs.declared.Rounded.{Rounded}
 use Rattle.station.specs.declared.Station.{Station}
 use Rattle.tic.specs.Calls.{roundAnswer, roundSheet}
@@ -21,8 +22,8 @@ pub round-told : (s : Station) (sheet after : List ℕ) (r : Rounded) (n : ℕ) 
     → (_≡_ {A = Answered} (record { station = r .station; number = n }) (roundAnswer s sheet))
     × (after ≡ roundSheet s sheet)
 round-told s sheet after r n d e =
-    let told : Rounded → ℕ → Answered = λ t m. record { station = t .station; number = m } in
-    (ap (told r) e ∙ ap (λ (t : Rounded). told t (station.numberOf (t .reply))) (d .results), d .leaves)
+    let (station-is, number-is, sheet-is) = serves-round s sheet in
+    (rw (e, d .results, station-is, number-is), d .leaves ∙ sym sheet-is)
 
 pub judges : (j k : Judged) (n : ℕ) → j ≡ k → n ≡ numberOf (j .verdict) → Judges k n (stretchesOf j)
 judges j k n e h = record { numbers = h ∙ ap (λ (i : Judged). numberOf (i .verdict)) e; stretch = ap stretchesOf e }

@@ -1,42 +1,43 @@
--- The station's calls as a caller in C makes them: line and mode are numbers of 32 bits, and the answer is document
--- 01's number.
-use mathlib.Core.List.{List}
+-- The station's calls as a caller in C makes them: line and mode are numbers of any size, and the answer is document
+-- 01's number. Each is the very call of the station's `History.antt`, of which its demands are.
+use mathlib.Core.List.{List, [], _∷_}
 use Prim.Native.Nat.{ℕ}
-use lib.Dec.{ltb}
-use Rattle.characters.specs.Answers.{Answer, need}
 use Rattle.station.specs.Numbers.{numberOf}
-use Rattle.station.specs.Stations.{called, opening, delivering}
-use Rattle.station.specs.Rounds.{round}
+use Rattle.station.specs.History.{Call, opens, delivers, serves, next, gets}
 use Rattle.station.specs.declared.Station.{Station}
-use Rattle.station.specs.declared.Refusal.{Refusal}
-use Rattle.station.specs.declared.Refusal.the-variants.{LineUnknown, ModeUnknown}
 use Rattle.station.specs.declared.Called.{Called}
 use Rattle.tic.specs.declared.Answered.{Answered}
 
--- "Opening: 16, 19." 16 is "line number 8 or more", whatever its size; a mode that no byte holds is 19 here, since the
--- station takes a byte, and is not cut to one
-unfoldable pub openingFor : Station → ℕ → ℕ → Answer Refusal Station
-openingFor s line mode = need (ltb line 8) LineUnknown (need (ltb mode 256) ModeUnknown (opening s line mode))
+-- "Opening: 16, 19."
+abbrev pub openAnswer : Station → ℕ → ℕ → Answered
+openAnswer s line mode = record { station = next s (opens line mode); number = gets s (opens line mode) .number }
 
 -- "Delivery: 16, 17, 15."
-unfoldable pub deliveringFor : Station → ℕ → List ℕ → Answer Refusal Station
-deliveringFor s line bytes = need (ltb line 8) LineUnknown (delivering s line bytes)
-
--- the station afterwards, and the number
-abbrev pub answerOf : Called → Answered
-answerOf c = record { station = c .station; number = numberOf (c .reply) }
-
-abbrev pub openAnswer : Station → ℕ → ℕ → Answered
-openAnswer s line mode = answerOf (called s (openingFor s line mode))
-
 abbrev pub deliverAnswer : Station → ℕ → List ℕ → Answered
-deliverAnswer s line bytes = answerOf (called s (deliveringFor s line bytes))
+deliverAnswer s line bytes =
+    record { station = next s (delivers line bytes); number = gets s (delivers line bytes) .number }
 
--- the eight counts are the sheet's first bytes; a round that is refused took none
+-- "Round: 18." The eight counts are the sheet's first bytes; a round that is refused took none
 abbrev pub roundAnswer : Station → List ℕ → Answered
-roundAnswer s sheet =
-    record { station = round s sheet .result .station; number = numberOf (round s sheet .result .reply) }
+roundAnswer s sheet = record { station = next s (serves sheet); number = gets s (serves sheet) .number }
 
 -- the sheet afterwards
 abbrev pub roundSheet : Station → List ℕ → List ℕ
-roundSheet s sheet = round s sheet .sheet
+roundSheet s sheet = gets s (serves sheet) .lent
+
+-- what a call of the station by value comes to: the station afterwards, and the number
+abbrev pub answerOf : Called → Answered
+answerOf c = record { station = c .station; number = numberOf (c .reply) }
+
+-- ---- Calls one after the other
+
+-- what a call through `tic.h` leaves and returns
+abbrev pub answerTo : Station → Call → Answered
+answerTo s (opens line mode) = openAnswer s line mode
+answerTo s (delivers line bytes) = deliverAnswer s line bytes
+answerTo s (serves sheet) = roundAnswer s sheet
+
+-- the station after a list of them
+abbrev pub afterCalls : Station → List Call → Station
+afterCalls s [] = s
+afterCalls s (c ∷ cs) = afterCalls (answerTo s c .station) cs

@@ -1,5 +1,4 @@
 -- What callers in C are told, in document 01's numbers, and what is left of what they lend.
 pub mod Calls
 pub mod OneGroup
-pub mod Wide
 pub mod Promises

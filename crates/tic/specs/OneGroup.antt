@@ -1,25 +1,13 @@
--- One group as a caller in C has it judged and written: the mode is a number of 32 bits, the answer is document 01's
--- number, and what else is told lies in numbers that the caller lends.
+-- One group as a caller in C has it judged and written: the answer is document 01's number, and what else is told lies
+-- in numbers that the caller lends.
 use mathlib.Core.Path.{_≡_}
 use mathlib.Core.List.{List, [], _∷_}
 use Prim.Native.Nat.{ℕ}
-use lib.Dec.{ltb}
-use Rattle.characters.specs.Answers.{Answer, need}
-use Rattle.groups.specs.Groups.{Group}
-use Rattle.groups.specs.Judging.{judging}
+use Rattle.characters.specs.Answers.{Answer}
 use Rattle.groups.specs.Numbers.{numberOf, numberOfWriting}
-use Rattle.groups.specs.Writing.{writing, told, left}
+use Rattle.groups.specs.Writing.{told, left}
 use Rattle.groups.specs.declared.Refusal.{Refusal}
-use Rattle.groups.specs.declared.Refusal.the-variants.{ModeUnknown}
 use Rattle.groups.specs.declared.Judged.{Judged}
-
--- 19 first: a mode that no byte holds is none, and is not cut to one
-unfoldable pub judgingFor : ℕ → List ℕ → Answer Refusal Group
-judgingFor mode content = need (ltb mode 256) ModeUnknown (judging mode content)
-
--- likewise, and into so much room
-unfoldable pub writingFor : ℕ → Group → ℕ → Answer Refusal (List ℕ)
-writingFor mode g room = need (ltb mode 256) ModeUnknown (writing mode g room)
 
 -- start and length of label, stamp and data: "shown label, stamp and data as stretches of its own bytes"
 abbrev pub stretchesOf : Judged → List ℕ

@@ -18,10 +18,10 @@ use station::Station;
 ghost use mathlib.Core.Path.{_≡_};
 ghost use lib.ListN.{length};
 ghost use Rattle.groups.specs.Groups.{groupOf};
-ghost use Rattle.groups.specs.Judging.{shown};
-ghost use Rattle.groups.specs.Writing.{Wrote};
+ghost use Rattle.groups.specs.Judging.{judging, shown};
+ghost use Rattle.groups.specs.Writing.{writing, Wrote};
 ghost use Rattle.tic.specs.Calls.{answerOf, openAnswer, deliverAnswer, roundAnswer, roundSheet};
-ghost use Rattle.tic.specs.OneGroup.{judgingFor, writingFor, Judges, Writes};
+ghost use Rattle.tic.specs.OneGroup.{Judges, Writes};
 
 // The station after a call, and the number of the call.
 struct Answered {
@@ -120,7 +120,7 @@ pub extern "C" fn tic_round(station: &mut Station, sheet: &mut [u8]) -> u32
 }
 
 fn judged(mode: u32, content: &[u8]) -> Judged
-    ensures { λ r. ⌜ r ≡ shown (judgingFor mode (now (content .entry))) ⌝ }
+    ensures { λ r. ⌜ r ≡ shown (judging mode (now (content .entry))) ⌝ }
 {
     if mode < 256 {
         return groups::judge(mode as u8, content);
@@ -140,7 +140,7 @@ fn judged(mode: u32, content: &[u8]) -> Judged
 // Judges the content of one group, given alone, and shows where its label, stamp and data start, and their lengths.
 #[no_mangle]
 pub extern "C" fn tic_judge(mode: u32, content: &[u8], stretches: &mut [usize; 6]) -> u32
-    ensures { λ r. ⌜ Judges (shown (judgingFor mode (now (content .entry)))) r (now (stretches .exit)) ⌝ }
+    ensures { λ r. ⌜ Judges (shown (judging mode (now (content .entry)))) r (now (stretches .exit)) ⌝ }
 {
     let shown = judged(mode, content);
     let verdict = shown.verdict;
@@ -160,7 +160,7 @@ pub extern "C" fn tic_judge(mode: u32, content: &[u8], stretches: &mut [usize; 6
 
 fn wrote(mode: u32, label: &[u8], stamp: &[u8], data: &[u8], buffer: &mut [u8]) -> Written
     ensures { λ r. ⌜ Wrote
-        (writingFor mode (groupOf (now (label .entry)) (now (stamp .entry)) (now («data» .entry)))
+        (writing mode (groupOf (now (label .entry)) (now (stamp .entry)) (now («data» .entry)))
         (length (now (buffer .entry))))
         (now (buffer .entry)) r (now (buffer .exit)) ⌝ }
 {
@@ -184,7 +184,7 @@ pub extern "C" fn tic_write(
     written: &mut usize,
 ) -> u32
     ensures { λ r. ⌜ Writes
-        (writingFor mode (groupOf (now (label .entry)) (now (stamp .entry)) (now («data» .entry)))
+        (writing mode (groupOf (now (label .entry)) (now (stamp .entry)) (now («data» .entry)))
         (length (now (buffer .entry))))
         (now (buffer .entry)) r (now (buffer .exit)) (now (written .exit)) ⌝ }
 {

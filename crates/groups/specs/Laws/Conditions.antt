@@ -150,19 +150,31 @@ total-end : (a : List ℕ) (x : ℕ) → total (a ++ x ∷ []) ≡ total a + x
 total-end [] x = omega arith
 total-end (y ∷ a) x = omega (arith, total-end a x)
 
--- all that stands before the final separator: label, separator and body
-front : (m : Mode) (c : List ℕ) → Shaped m c → take (length c - 2) c ≡ labelOf m c ++ separator m ∷ bodyOf m c
-unfolding labelOf bodyOf
-front m c s =
-    let f = firstAt (separator m) c in
+-- a content without its last two characters, where the first separator stands before these
+front-at : (s : ℕ) (c : List ℕ) → firstAt s c + 3 ≤ length c
+    → take (length c - 2) c ≡ take (firstAt s c) c ++ s ∷ drop (firstAt s c + 1) (take (length c - 2) c)
+front-at s c h =
+    let f = firstAt s c in
     let k : f < length (take (length c - 2) c) = rw (length-take-le (length c - 2) c (omega arith)) (omega arith) in
     split-at (take (length c - 2) c) f 0 k
     ∙ rw (
       take-take f (length c - 2) c (omega arith),
       getD-take (length c - 2) c f 0 (omega arith),
-      first-there (separator m) c (omega arith),
+      first-there s c (omega arith),
       ← add-one f,
     )
+
+-- the same by what stands behind the separator
+pub front-behind : (s : ℕ) (c : List ℕ) (f : ℕ) → f ≡ firstAt s c → 2 ≤ length (drop (f + 1) c)
+    → take (length c - 2) c ≡ take f c ++ s ∷ take (length (drop (f + 1) c) - 2) (drop (f + 1) c)
+front-behind s c f e h =
+    let n = length-drop (f + 1) c in
+    front-at s c (omega arith) ∙ rw (← e, ← (rest-front c (f + 1) 2 (omega arith)))
+
+-- all that stands before the final separator: label, separator and body
+front : (m : Mode) (c : List ℕ) → Shaped m c → take (length c - 2) c ≡ labelOf m c ++ separator m ∷ bodyOf m c
+unfolding labelOf bodyOf
+front m c s = front-at (separator m) c (omega arith)
 
 -- the characters that enter the sum by places are those of label, separator and body, and the final separator where it
 -- counts

@@ -1,7 +1,7 @@
 -- What is left of the bytes decides.
 use Prim.Native.Nat.{_-_, _≤_}
-use Rattle.groups.specs.Groups.{content}
 use Rattle.line.proofs.Feeding.{as-fed, feed-accepted, feed-on, feed-over, feed-told}
+use Rattle.line.proofs.Rows.{run-most, run-on}
 use Rattle.line.specs.Steps.{fed}
 use borrow.Author.Needs.{needs}
 use lib.ListN.{drop, length}
@@ -20,29 +20,82 @@ abbrev μ-loop : tie.MeasureT-loop
 loop-holds : tie.Need-loop-holds Inv-loop μ-loop
 loop-holds c = (search needs, refl)
 
+sub-take-row : tie.Need-sub-take-row Inv-loop μ-loop
+sub-take-row c = search needs
+
+part-take-row-start : tie.Need-part-take-row-start Inv-loop μ-loop
+part-take-row-start c = search needs
+
+part-take-row-end : tie.Need-part-take-row-end Inv-loop μ-loop
+part-take-row-end c = search needs
+
+take-row-requires : tie.Need-take-row-requires Inv-loop μ-loop
+take-row-requires c κs = search needs
+
+add-i : tie.Need-add-i Inv-loop μ-loop
+add-i c =
+    let at-take-row = c .before in
+    let at-loop-test = at-take-row .before .before .before in
+    let at-loop = at-loop-test .before in
+    let start = at-loop .before .before in
+    let l = at-loop .loop in
+    let most = run-most (l .at) (l .content) (start .args .bytes .now) (l .i) (at-loop-test .loop-test .taken) _ _
+    (at-take-row .take-row .ensures) in
+    omega arith
+
 shared-slice-read-step : tie.Need-shared-slice-read-step Inv-loop μ-loop
-shared-slice-read-step c = search needs
+shared-slice-read-step c =
+    let at-take-row = c .before .before .before .before .before in
+    let at-loop-test = at-take-row .before .before .before in
+    let at-loop = at-loop-test .before in
+    let start = at-loop .before .before in
+    let l = at-loop .loop in
+    let most = run-most (l .at) (l .content) (start .args .bytes .now) (l .i) (at-loop-test .loop-test .taken) _ _
+    (at-take-row .take-row .ensures) in
+    omega arith
 
 step-requires : tie.Need-step-requires Inv-loop μ-loop
 step-requires c κs = search needs
 
-add-i : tie.Need-add-i Inv-loop μ-loop
-add-i c = search needs
+add-i-2 : tie.Need-add-i-2 Inv-loop μ-loop
+add-i-2 c =
+    let at-take-row = c .before .before .before .before .before .before .before in
+    let at-loop-test = at-take-row .before .before .before in
+    let at-loop = at-loop-test .before in
+    let start = at-loop .before .before in
+    let l = at-loop .loop in
+    let most = run-most (l .at) (l .content) (start .args .bytes .now) (l .i) (at-loop-test .loop-test .taken) _ _
+    (at-take-row .take-row .ensures) in
+    omega arith
 
 enum-told : tie.Need-enum-told Inv-loop μ-loop
 enum-told c = search needs
 
 loop-less : tie.Need-loop-less Inv-loop μ-loop
-loop-less c = search needs
+loop-less c =
+    let at-take-row = c .before .before .before .before .before .before .before .before .before in
+    let at-loop-test = at-take-row .before .before .before in
+    let at-loop = at-loop-test .before in
+    let start = at-loop .before .before in
+    let l = at-loop .loop in
+    let most = run-most (l .at) (l .content) (start .args .bytes .now) (l .i) (at-loop-test .loop-test .taken) _ _
+    (at-take-row .take-row .ensures) in
+    omega arith
 
 loop-again : tie.Need-loop-again Inv-loop μ-loop
 loop-again c =
-    let at-step = c .before .before .before in
-    let at-loop = at-step .before .before .before .before in
+    let at-take-row = c .before .before .before .before .before .before .before .before .before in
+    let at-loop-test = at-take-row .before .before .before in
+    let at-loop = at-loop-test .before in
     let start = at-loop .before .before in
-    let l = at-loop .loop in (
+    let l = at-loop .loop in
+    let most = run-most (l .at) (l .content) (start .args .bytes .now) (l .i) (at-loop-test .loop-test .taken) _ _
+    (at-take-row .take-row .ensures) in
+    let at-step = c .before .before .before in (
       omega arith,
-      l .inv .1 ∙ feed-on (l .at) (l .content) (start .args .bytes .now) (l .i) (omega arith)
+      l .inv .1
+          ∙ run-on (l .at) (l .content) (start .args .bytes .now) (l .i) (at-loop-test .loop-test .taken) _ _ (at-take-row .take-row .ensures)
+          ∙ feed-on (at-take-row .take-row .result .line) _ (start .args .bytes .now) _ (omega arith)
           (at-step .step .result) _ (at-step .step .ensures) (c .enum-told .given .1),
     )
 
@@ -51,11 +104,17 @@ enum-known-heard c = search needs
 
 returns : tie.Need-returns Inv-loop μ-loop
 returns c =
-    let at-step = c .before .before .before .before in
-    let at-loop = at-step .before .before .before .before in
+    let at-take-row = c .before .before .before .before .before .before .before .before .before .before in
+    let at-loop-test = at-take-row .before .before .before in
+    let at-loop = at-loop-test .before in
     let start = at-loop .before .before in
     let l = at-loop .loop in
-    as-fed _ _ (l .inv .1 ∙ feed-accepted (l .at) (l .content) (start .args .bytes .now) (l .i) (omega arith)
+    let most = run-most (l .at) (l .content) (start .args .bytes .now) (l .i) (at-loop-test .loop-test .taken) _ _
+    (at-take-row .take-row .ensures) in
+    let at-step = c .before .before .before .before in
+    as-fed _ _ (l .inv .1
+    ∙ run-on (l .at) (l .content) (start .args .bytes .now) (l .i) (at-loop-test .loop-test .taken) _ _ (at-take-row .take-row .ensures)
+    ∙ feed-accepted (at-take-row .take-row .result .line) _ (start .args .bytes .now) _ (omega arith)
     (at-step .step .result) _ (at-step .step .ensures) _ (c .before .heard .given .1))
 
 enum-known-heard-2 : tie.Need-enum-known-heard-2 Inv-loop μ-loop
@@ -63,11 +122,17 @@ enum-known-heard-2 c = search needs
 
 returns-2 : tie.Need-returns-2 Inv-loop μ-loop
 returns-2 c =
-    let at-step = c .before .before .before .before in
-    let at-loop = at-step .before .before .before .before in
+    let at-take-row = c .before .before .before .before .before .before .before .before .before .before in
+    let at-loop-test = at-take-row .before .before .before in
+    let at-loop = at-loop-test .before in
     let start = at-loop .before .before in
     let l = at-loop .loop in
-    as-fed _ _ (l .inv .1 ∙ feed-told (l .at) (l .content) (start .args .bytes .now) (l .i) (omega arith)
+    let most = run-most (l .at) (l .content) (start .args .bytes .now) (l .i) (at-loop-test .loop-test .taken) _ _
+    (at-take-row .take-row .ensures) in
+    let at-step = c .before .before .before .before in
+    as-fed _ _ (l .inv .1
+    ∙ run-on (l .at) (l .content) (start .args .bytes .now) (l .i) (at-loop-test .loop-test .taken) _ _ (at-take-row .take-row .ensures)
+    ∙ feed-told (at-take-row .take-row .result .line) _ (start .args .bytes .now) _ (omega arith)
     (at-step .step .result) _ (at-step .step .ensures) _ (c .before .heard2 .given .1))
 
 returns-3 : tie.Need-returns-3 Inv-loop μ-loop
@@ -76,6 +141,17 @@ returns-3 c =
     let l = c .before .loop in
     as-fed _ _ (l .inv .1 ∙ feed-over (l .at) (l .content) (start .args .bytes .now) (l .i) (omega arith))
 
+returns-4 : tie.Need-returns-4 Inv-loop μ-loop
+returns-4 c =
+    let at-take-row = c .before .before .before in
+    let at-loop-test = at-take-row .before .before .before in
+    let at-loop = at-loop-test .before in
+    let start = at-loop .before .before in
+    let l = at-loop .loop in
+    as-fed _ _ (l .inv .1
+    ∙ run-on (l .at) (l .content) (start .args .bytes .now) (l .i) (at-loop-test .loop-test .taken) _ _ (at-take-row .take-row .ensures)
+    ∙ feed-over _ _ (start .args .bytes .now) _ (omega arith))
+
 pub feed-spec : {M : Type 1} → statement M
 feed-spec =
     tie.close
@@ -83,9 +159,14 @@ feed-spec =
     Inv-loop
     μ-loop
     loop-holds
+    sub-take-row
+    part-take-row-start
+    part-take-row-end
+    take-row-requires
+    add-i
     shared-slice-read-step
     step-requires
-    add-i
+    add-i-2
     enum-told
     loop-less
     loop-again
@@ -93,4 +174,5 @@ feed-spec =
     returns
     enum-known-heard-2
     returns-2
-    returns-3)
+    returns-3
+    returns-4)

@@ -26,7 +26,7 @@ use Rattle.line.specs.declared.rules.Symbol.the-variants.{Lf, Cr, Text}
 -- ---- Wire bytes and their symbols
 
 -- the wire byte of a character is the character's symbol
-wire-symbol : (c : ℕ) → c < 128 → symbolOf (wireByteOf c) ≡ soundSymbol c
+pub wire-symbol : (c : ℕ) → c < 128 → symbolOf (wireByteOf c) ≡ soundSymbol c
 unfolding symbolOf pick
 wire-symbol c h = rw (wire-sound c, wire-character c h)
 

@@ -25,12 +25,12 @@ returns c =
     let at-fill = c .before in
     let at-if1 = at-fill .before .before in
     let start = at-if1 .before .before in
-    delivery-stored (start .args .t1) (start .args .line) (start .args .bytes .now) _ (at-if1 .if1 .taken) (at-fill .fill .ensures)
+    delivery-stored (start .args .station) (start .args .line) (start .args .bytes .now) _ (at-if1 .if1 .taken) (at-fill .fill .ensures)
 
 returns-2 : tie.Need-returns-2
 returns-2 c =
     let start = c .before .before in
-    deliver-no-line (start .args .t1) (start .args .line) (start .args .bytes .now) (c .if1 .left)
+    deliver-no-line (start .args .station) (start .args .line) (start .args .bytes .now) (c .if1 .left)
 
 pub deliver-spec : {M : Type 1} → statement M
 deliver-spec =

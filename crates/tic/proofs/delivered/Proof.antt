@@ -1,7 +1,6 @@
--- A delivery, by whether a byte holds the line.
-use Rattle.station.specs.Stations.{called}
+-- A delivery, by whether there is the line.
 use Rattle.tic.specs.Calls.{answerOf}
-use Rattle.tic.specs.Wide.{delivering-held, delivering-no-line}
+use Rattle.tic.specs.Promises.{deliver-called, deliver-no-line}
 use mathlib.Core.Path.{_∙_, ap, sym}
 use borrow.Author.Needs.{needs}
 use Rattle.tic.proofs.delivered.Statement.{statement}
@@ -19,10 +18,10 @@ answer-to-requires c κs = search needs
 returns : tie.Need-returns
 returns c =
     let at-deliver = c .before in
-    let at-if1 = at-deliver .before in
-    let g = at-if1 .before .before .args in
-    c .answer-to .ensures ∙ ap answerOf (at-deliver .deliver .ensures ∙ ap (called (g .station)) (sym
-    (delivering-held (g .station) (g .line) (g .bytes .now) (at-if1 .if1 .taken))))
+    let g = at-deliver .before .before .before .args in
+    c .answer-to .ensures
+    ∙ ap answerOf (at-deliver .deliver .ensures)
+    ∙ sym (deliver-called (g .station) (g .line) (g .bytes .now))
 
 answer-to-requires-2 : tie.Need-answer-to-requires-2
 answer-to-requires-2 c κs = search needs
@@ -31,8 +30,7 @@ returns-2 : tie.Need-returns-2
 returns-2 c =
     let at-if1 = c .before in
     let g = at-if1 .before .before .args in
-    c .answer-to2 .ensures ∙ ap (λ a. answerOf (called (g .station) a)) (sym
-    (delivering-no-line (g .station) (g .line) (g .bytes .now) (at-if1 .if1 .left)))
+    c .answer-to2 .ensures ∙ sym (deliver-no-line (g .station) (g .line) (g .bytes .now) (at-if1 .if1 .left))
 
 pub delivered-spec : {M : Type 1} → statement M
 delivered-spec =

@@ -1,8 +1,8 @@
--- An opening, by whether a byte holds the line and the mode.
-use Rattle.station.specs.Stations.{called}
+-- An opening, by whether there is the line and a byte holds the mode.
 use Rattle.tic.specs.Calls.{answerOf}
-use Rattle.tic.specs.Wide.{opening-held, opening-no-mode, opening-no-line}
+use Rattle.tic.specs.Promises.{open-called, open-no-line, open-no-mode}
 use mathlib.Core.Path.{_∙_, ap, sym}
+use native.Mathlib.Omega.{arith}
 use borrow.Author.Needs.{needs}
 use Rattle.tic.proofs.opened.Statement.{statement}
 use Rattle.tic.proofs.opened.Tie as tie
@@ -24,9 +24,9 @@ returns c =
     let at-open = c .before in
     let start = at-open .before .before .before in
     let g = start .args in
-    c .answer-to .ensures ∙ ap answerOf (at-open .«open» .ensures ∙ ap (called (g .station)) (sym
-    (opening-held (g .station) (g .line) (g .mode) (at-open .before .before .if1 .taken)
-    (at-open .before .if2 .taken))))
+    c .answer-to .ensures
+    ∙ ap answerOf (at-open .«open» .ensures)
+    ∙ sym (open-called (g .station) (g .line) (g .mode))
 
 answer-to-requires-2 : tie.Need-answer-to-requires-2
 answer-to-requires-2 c κs = search needs
@@ -36,8 +36,8 @@ returns-2 c =
     let at-if2 = c .before in
     let start = at-if2 .before .before in
     let g = start .args in
-    c .answer-to2 .ensures ∙ ap (λ a. answerOf (called (g .station) a)) (sym
-    (opening-no-mode (g .station) (g .line) (g .mode) (at-if2 .before .if1 .taken) (at-if2 .if2 .left)))
+    c .answer-to2 .ensures ∙ sym
+    (open-no-mode (g .station) (g .line) (g .mode) (at-if2 .before .if1 .taken) (omega (arith, at-if2 .if2 .left)))
 
 answer-to-requires-3 : tie.Need-answer-to-requires-3
 answer-to-requires-3 c κs = search needs
@@ -46,8 +46,7 @@ returns-3 : tie.Need-returns-3
 returns-3 c =
     let at-if1 = c .before in
     let g = at-if1 .before .args in
-    c .answer-to3 .ensures ∙ ap (λ a. answerOf (called (g .station) a)) (sym
-    (opening-no-line (g .station) (g .line) (g .mode) (at-if1 .if1 .left)))
+    c .answer-to3 .ensures ∙ sym (open-no-line (g .station) (g .line) (g .mode) (at-if1 .if1 .left))
 
 pub opened-spec : {M : Type 1} → statement M
 opened-spec =

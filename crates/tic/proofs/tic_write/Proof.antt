@@ -1,6 +1,6 @@
 -- The number of the outcome, and the count in the lent number.
 use Rattle.groups.specs.Groups.{groupOf}
-use Rattle.tic.specs.OneGroup.{writingFor}
+use Rattle.groups.specs.Writing.{writing}
 use Rattle.tic.proofs.Telling.{writes}
 use lib.ListN.{length}
 use borrow.Author.Needs.{needs}
@@ -24,7 +24,7 @@ returns c =
     let at-wrote = c .before .before .before in
     let g = at-wrote .before .before .before .before .before .before .args in
     let group = groupOf (g .label .now) (g .stamp .now) (g .«data» .now) in
-    writes (writingFor (g .mode) group (length (g .buffer .now))) (g .buffer .now) _ (at-wrote .wrote .result) _
+    writes (writing (g .mode) group (length (g .buffer .now))) (g .buffer .now) _ (at-wrote .wrote .result) _
     (at-wrote .wrote .ensures) (c .number-of-writing .ensures)
 
 pub tic-write-spec : {M : Type 1} → statement M

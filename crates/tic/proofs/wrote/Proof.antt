@@ -3,11 +3,11 @@ use Rattle.characters.specs.Answers.{refused}
 use Rattle.groups.specs.Groups.{groupOf}
 use Rattle.groups.specs.Writing.{writing}
 use Rattle.groups.specs.declared.Refusal.the-variants.{ModeUnknown}
-use Rattle.tic.specs.OneGroup.{writingFor}
 use Rattle.tic.proofs.Telling.{wrote-for}
-use Rattle.tic.specs.Wide.{writing-held, writing-no-mode}
+use Rattle.groups.specs.Laws.Unknown.{writing-no-mode}
 use lib.ListN.{length}
 use mathlib.Core.Path.{refl}
+use native.Mathlib.Omega.{arith}
 use borrow.Author.Needs.{needs}
 use Rattle.tic.proofs.wrote.Statement.{statement}
 use Rattle.tic.proofs.wrote.Tie as tie
@@ -22,22 +22,15 @@ same-length : tie.Need-same-length
 same-length c = search needs
 
 returns : tie.Need-returns
-returns c =
-    let at-write = c .before .before in
-    let at-if1 = at-write .before .before in
-    let g = at-if1 .before .before .before .before .before .args in
-    let group = groupOf (g .label .now) (g .stamp .now) (g .«data» .now) in
-    let room = length (g .buffer .now) in
-    wrote-for (writingFor (g .mode) group room) (writing (g .mode) group room) (g .buffer .now) _ _
-    (writing-held (g .mode) group room (at-if1 .if1 .taken)) (at-write .write .ensures)
+returns c = c .before .before .write .ensures
 
 returns-2 : tie.Need-returns-2
 returns-2 c =
     let g = c .before .before .before .before .before .args in
     let group = groupOf (g .label .now) (g .stamp .now) (g .«data» .now) in
     let room = length (g .buffer .now) in
-    wrote-for (writingFor (g .mode) group room) (refused ModeUnknown) (g .buffer .now) (g .buffer .now) _
-    (writing-no-mode (g .mode) group room (c .if1 .left)) (record { tells = refl; leaves = refl })
+    wrote-for (writing (g .mode) group room) (refused ModeUnknown) (g .buffer .now) (g .buffer .now) _
+    (writing-no-mode (g .mode) (omega (arith, c .if1 .left)) group room) (record { tells = refl; leaves = refl })
 
 pub wrote-spec : {M : Type 1} → statement M
 wrote-spec = tie.close (tie.spec cast-write write-requires same-length returns returns-2)

@@ -1,4 +1,4 @@
--- What is left of the rows decides.
+-- What was found before stands; else what is left of the rows decides.
 use Prim.Native.Nat.{_-_, _≤_}
 use Rattle.groups.proofs.Search.{row-fits, search-here, search-on, search-over}
 use Rattle.groups.specs.Inside.{entryOf, foundOf}
@@ -19,6 +19,15 @@ Inv-loop label count rows i₀ i =
 abbrev μ-loop : tie.MeasureT-loop
 μ-loop label count rows i₀ i = count - i
 
+enum-known-found : tie.Need-enum-known-found Inv-loop μ-loop
+enum-known-found c = search needs
+
+returns : tie.Need-returns Inv-loop μ-loop
+returns c = rw (c .before .found .given .1)
+
+enum-told : tie.Need-enum-told Inv-loop μ-loop
+enum-told c = search needs
+
 loop-holds : tie.Need-loop-holds Inv-loop μ-loop
 loop-holds c = (search needs, refl)
 
@@ -30,18 +39,21 @@ array-copy-out-row c = search needs
 
 is-named-requires : tie.Need-is-named-requires Inv-loop μ-loop
 is-named-requires c κs =
-    let start = c .before .before .before .before in
-    let h : length (start .args .t2) ≡ 9 = search needs in
-    row-fits (start .args .t2) (c .before .before .loop .i) _ (start .pre .1) (omega arith)
+    let at-loop = c .before .before in
+    let start = at-loop .before .before .before .before in
+    let h : length (start .args .t3) ≡ 9 = search needs in
+    row-fits (start .args .t3) (at-loop .loop .i) _ (start .pre .1) (omega arith)
 
-returns : tie.Need-returns Inv-loop μ-loop
-returns c =
+returns-2 : tie.Need-returns-2 Inv-loop μ-loop
+returns-2 c =
     let at-loop = c .before .before .before .before in
-    let start = at-loop .before .before in
+    let told = at-loop .before in
+    let start = told .before .before .before in
     let l = at-loop .loop in
-    let h : length (start .args .t2) ≡ 9 = search needs in
-    ap foundOf (sym (l .inv .1 ∙ search-here (start .args .label .now) (start .args .t2) (start .args .count) (l .i) _
-    (omega arith) (omega arith) (sym (c .before .is-named .ensures) ∙ c .if1 .taken)))
+    let h : length (start .args .t3) ≡ 9 = search needs in
+    rw (told .enum-told .given .1)
+    (ap foundOf (sym (l .inv .1 ∙ search-here (start .args .label .now) (start .args .t3) (start .args .count) (l .i) _
+    (omega arith) (omega arith) (sym (c .before .is-named .ensures) ∙ c .if1 .taken))))
 
 add-i : tie.Need-add-i Inv-loop μ-loop
 add-i c = search needs
@@ -52,20 +64,23 @@ loop-less c = search needs
 loop-again : tie.Need-loop-again Inv-loop μ-loop
 loop-again c =
     let at-loop = c .before .before .before .before in
-    let start = at-loop .before .before in
+    let told = at-loop .before in
+    let start = told .before .before .before in
     let l = at-loop .loop in
-    let h : length (start .args .t2) ≡ 9 = search needs in (
+    let h : length (start .args .t3) ≡ 9 = search needs in (
       omega arith,
-      l .inv .1 ∙ search-on (start .args .label .now) (start .args .t2) (start .args .count) (l .i) _
+      l .inv .1 ∙ search-on (start .args .label .now) (start .args .t3) (start .args .count) (l .i) _
           (omega arith) (omega arith) (sym (c .before .is-named .ensures) ∙ c .if1 .left),
     )
 
-returns-2 : tie.Need-returns-2 Inv-loop μ-loop
-returns-2 c =
-    let start = c .before .before .before in
+returns-3 : tie.Need-returns-3 Inv-loop μ-loop
+returns-3 c =
+    let told = c .before .before in
+    let start = told .before .before .before in
     let l = c .before .loop in
-    ap foundOf (sym (l .inv .1 ∙ search-over (start .args .label .now) (start .args .t2) (start .args .count) (l .i)
-    (omega arith)))
+    rw (told .enum-told .given .1)
+    (ap foundOf (sym (l .inv .1 ∙ search-over (start .args .label .now) (start .args .t3) (start .args .count) (l .i)
+    (omega arith))))
 
 pub search-spec : {M : Type 1} → statement M
 search-spec =
@@ -73,12 +88,15 @@ search-spec =
     (tie.spec
     Inv-loop
     μ-loop
+    enum-known-found
+    returns
+    enum-told
     loop-holds
     mul-row
     array-copy-out-row
     is-named-requires
-    returns
+    returns-2
     add-i
     loop-less
     loop-again
-    returns-2)
+    returns-3)

@@ -1,5 +1,6 @@
 -- Each answer is the definition at the tests that led to it.
 use Rattle.groups.proofs.Views.{found-none, found-some}
+use Rattle.groups.proofs.Walks.{check-front}
 use Rattle.groups.specs.Judging.{shown}
 use Rattle.groups.specs.Laws.Places.{behind-checked, behind-listed, behind-open, behind-short, behind-unlisted}
 use borrow.Author.Needs.{needs}
@@ -45,10 +46,10 @@ sub-if3 c = search needs
 shared-slice-read-if3 : tie.Need-shared-slice-read-if3
 shared-slice-read-if3 c = search needs
 
-check-of-requires : tie.Need-check-of-requires
-check-of-requires c κs =
+check-by-requires : tie.Need-check-by-requires
+check-by-requires c κs =
     let start = c .before .before .before .before .before .before .before .before in
-    (start .pre .0, simp length-take (omega (arith, start .pre .1)))
+    omega (arith, start .pre .small)
 
 refuse-requires-3 : tie.Need-refuse-requires-3
 refuse-requires-3 c κs = search needs
@@ -62,7 +63,7 @@ returns-3 c =
     let g = start .args in
     c .refuse3 .ensures ∙ ap shown (sym (behind-checked (g .mode) (g .label .now) (g .rest .now) (at-if1 .if1 .left)
     (at-if2 .if2 .left ∙ at-separator-of .separator-of .ensures) (λ z. c .before .if3 .taken (z ∙ sym
-    (c .before .before .check-of .ensures)))))
+    (c .before .before .check-by .ensures ∙ check-front (g .mode) (g .label .now) (g .rest .now) (g .front) (start .pre) (at-if1 .if1 .left))))))
 
 find-requires : tie.Need-find-requires
 find-requires c κs = search needs
@@ -83,29 +84,29 @@ returns-4 : tie.Need-returns-4
 returns-4 c =
     let at-find = c .before .before .before .before in
     let at-if3 = at-find .before in
-    let at-check-of = at-if3 .before in
-    let at-if2 = at-check-of .before .before .before in
+    let at-check-by = at-if3 .before in
+    let at-if2 = at-check-by .before .before .before in
     let at-separator-of = at-if2 .before in
     let at-if1 = at-separator-of .before .before in
     let start = at-if1 .before .before .before in
     let g = start .args in
     c .fields-of .ensures ∙ ap shown (sym (behind-listed (g .mode) (g .label .now) (g .rest .now) _
     (at-if1 .if1 .left) (at-if2 .if2 .left ∙ at-separator-of .separator-of .ensures) (at-if3 .if3 .left ∙
-    at-check-of .check-of .ensures) (found-some _ _ (sym (at-find .find .ensures) ∙
+    at-check-by .check-by .ensures ∙ check-front (g .mode) (g .label .now) (g .rest .now) (g .front) (start .pre) (at-if1 .if1 .left)) (found-some _ _ (sym (at-find .find .ensures) ∙
     c .before .before .found .given .1))))
 
 returns-5 : tie.Need-returns-5
 returns-5 c =
     let at-find = c .before .before .before in
     let at-if3 = at-find .before in
-    let at-check-of = at-if3 .before in
-    let at-if2 = at-check-of .before .before .before in
+    let at-check-by = at-if3 .before in
+    let at-if2 = at-check-by .before .before .before in
     let at-separator-of = at-if2 .before in
     let at-if1 = at-separator-of .before .before in
     let start = at-if1 .before .before .before in
     let g = start .args in
     c .refuse4 .ensures ∙ ap shown (sym (behind-unlisted (g .mode) (g .label .now) (g .rest .now) (at-if1 .if1 .left)
-    (at-if2 .if2 .left ∙ at-separator-of .separator-of .ensures) (at-if3 .if3 .left ∙ at-check-of .check-of .ensures)
+    (at-if2 .if2 .left ∙ at-separator-of .separator-of .ensures) (at-if3 .if3 .left ∙ at-check-by .check-by .ensures ∙ check-front (g .mode) (g .label .now) (g .rest .now) (g .front) (start .pre) (at-if1 .if1 .left))
     (found-none _ (sym (at-find .find .ensures) ∙ c .before .enum-told .given .1))))
 
 pub behind-label-spec : {M : Type 1} → statement M
@@ -121,7 +122,7 @@ behind-label-spec =
     slice-aggregate-body
     sub-if3
     shared-slice-read-if3
-    check-of-requires
+    check-by-requires
     refuse-requires-3
     returns-3
     find-requires

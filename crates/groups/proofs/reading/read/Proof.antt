@@ -1,11 +1,11 @@
 -- Each answer is the definition at the tests that led to it.
 use Prim.Native.Nat.{_+_, ℕ}
-use Rattle.groups.proofs.Walks.{to-end}
+use Rattle.groups.proofs.Walks.{front-summed, to-end}
 use Rattle.groups.specs.Conditions.{firstAt}
 use Rattle.groups.specs.Judging.{shown}
 use Rattle.groups.specs.Laws.Places.{read-cut, read-long, read-uncut, read-unlabelled}
 use borrow.Author.Needs.{needs}
-use lib.ListN.{length-drop, length-take}
+use lib.ListN.{length-take}
 use mathlib.Core.Path.{_∙_, ap, sym}
 use native.Mathlib.Omega.{arith}
 use Rattle.groups.proofs.reading.read.Statement.{statement}
@@ -68,18 +68,22 @@ part-behind-label-start c = search needs
 part-behind-label-end : tie.Need-part-behind-label-end
 part-behind-label-end c = search needs
 
+front-sum-requires : tie.Need-front-sum-requires
+front-sum-requires c κs = search needs
+
 behind-label-requires : tie.Need-behind-label-requires
 behind-label-requires c κs =
-    let at-first = c .before .before .before .before in
-    let start = at-first .before .before .before .before in (
-      simp length-take (omega arith),
-      rw (to-end (at-first .first .result + 1) (start .args .content .now)) (simp
-          length-drop (omega arith)),
-    )
+    let at-first = c .before .before .before .before .before in
+    let at-separator-of = at-first .before in
+    let start = at-separator-of .before .before .before in
+    let g = start .args in
+    rw (to-end (at-first .first .result + 1) (g .content .now)) (front-summed (g .mode) (g .content .now) _ _
+    (at-first .first .ensures ∙ ap (λ (s : ℕ). firstAt s (g .content .now)) (at-separator-of .separator-of .ensures))
+    (c .front-sum .ensures))
 
 returns-4 : tie.Need-returns-4
 returns-4 c =
-    let at-if3 = c .before .before .before in
+    let at-if3 = c .before .before .before .before in
     let at-if2 = at-if3 .before in
     let at-first = at-if2 .before in
     let at-separator-of = at-first .before in
@@ -107,5 +111,6 @@ read-spec =
     sub-behind-label
     part-behind-label-start
     part-behind-label-end
+    front-sum-requires
     behind-label-requires
     returns-4)

@@ -1,10 +1,7 @@
 -- Damaged, too long, or what the reader says.
+use borrow.Author.Needs.{needs}
 use Rattle.characters.specs.Answers.{pick}
 use Rattle.line.specs.Steps.{heardOf}
-use borrow.Author.Needs.{needs}
-use lib.ListN.{length, length-take}
-use mathlib.Core.Path.{_≡_}
-use native.Mathlib.Omega.{arith}
 use Rattle.line.proofs.step.judged.Statement.{statement}
 use Rattle.line.proofs.step.judged.Tie as tie
 
@@ -16,16 +13,8 @@ returns-2 : tie.Need-returns-2
 unfolding heardOf pick
 returns-2 c = rw (c .before .if1 .left, c .if2 .taken)
 
-array-share-prefix-content : tie.Need-array-share-prefix-content
-array-share-prefix-content c =
-    let h : length (c .before .before .args .t4) ≡ 128 = search needs in
-    omega arith
-
-slice-aggregate-judge : tie.Need-slice-aggregate-judge
-slice-aggregate-judge c =
-    let start = c .before .before .before in
-    let h : length (start .args .t4) ≡ 128 = search needs in
-    simp length-take (omega arith)
+front-requires : tie.Need-front-requires
+front-requires c κs = search needs
 
 judge-requires : tie.Need-judge-requires
 judge-requires c κs = search needs
@@ -40,17 +29,31 @@ returns-3 : tie.Need-returns-3
 unfolding heardOf pick
 returns-3 c =
     let at-judge = c .before .before .before .before .before in
-    let at-if2 = at-judge .before .before in
+    let at-front = at-judge .before in
+    let at-if2 = at-front .before in
     let at-if1 = at-if2 .before in
-    rw (at-if1 .if1 .left, at-if2 .if2 .left, ← (at-judge .judge .ensures), c .enum-told .given .1)
+    rw (
+      at-if1 .if1 .left,
+      at-if2 .if2 .left,
+      ← (at-front .front .ensures),
+      ← (at-judge .judge .ensures),
+      c .enum-told .given .1,
+    )
 
 returns-4 : tie.Need-returns-4
 unfolding heardOf pick
 returns-4 c =
     let at-judge = c .before .before .before .before .before .before in
-    let at-if2 = at-judge .before .before in
+    let at-front = at-judge .before in
+    let at-if2 = at-front .before in
     let at-if1 = at-if2 .before in
-    rw (at-if1 .if1 .left, at-if2 .if2 .left, ← (at-judge .judge .ensures), c .before .verdict .given .1)
+    rw (
+      at-if1 .if1 .left,
+      at-if2 .if2 .left,
+      ← (at-front .front .ensures),
+      ← (at-judge .judge .ensures),
+      c .before .verdict .given .1,
+    )
 
 pub judged-spec : {M : Type 1} → statement M
 judged-spec =
@@ -58,8 +61,7 @@ judged-spec =
     (tie.spec
     returns
     returns-2
-    array-share-prefix-content
-    slice-aggregate-judge
+    front-requires
     judge-requires
     enum-told
     enum-known-verdict

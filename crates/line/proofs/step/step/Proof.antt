@@ -1,5 +1,5 @@
 -- Each answer is that of the move that the byte makes.
-use Rattle.line.proofs.Reactions.{does-adds, does-judge, does-not-add, does-opens, does-quiet, does-says, held-most}
+use Rattle.line.proofs.Reactions.{does-adds, does-judge, does-not-add, does-opens, does-quiet, does-says}
 use borrow.Author.Needs.{needs}
 use native.Mathlib.Omega.{arith}
 use Rattle.line.proofs.step.step.Statement.{statement}
@@ -60,10 +60,7 @@ cast-judged : tie.Need-cast-judged
 cast-judged c = search needs
 
 judged-requires : tie.Need-judged-requires
-judged-requires c κs =
-    let at-held-in = c .before .before .before .before .before .before .before in
-    let start = at-held-in .before in
-    omega (arith, held-most (start .args .line), at-held-in .held-in .ensures)
+judged-requires c κs = search needs
 
 ended-requires : tie.Need-ended-requires
 ended-requires c κs = search needs
@@ -123,11 +120,11 @@ returns-5 c =
     let start = at-held-in .before in
     does-not-add (start .args .line) (start .args .content .now) (start .args .byte) (at-phase-of .phase-of .ensures)
     (at-symbol-of .symbol-of .ensures) (at-moved .moved .ensures) (at-held-in .held-in .ensures) _ _ _ _
-    (at-does4 .does4 .given .1) (c .before .if1 .left) (c .quiet4 .ensures)
+    (at-does4 .does4 .given .1) (omega (arith, c .before .if1 .left)) (c .quiet4 .ensures)
 
 returns-6 : tie.Need-returns-6
 returns-6 c =
-    let at-does5 = c .before .before .before .before in
+    let at-does5 = c .before .before .before .before .before in
     let at-moved = at-does5 .before .before in
     let at-symbol-of = at-moved .before in
     let at-phase-of = at-symbol-of .before in

@@ -1,0 +1,89 @@
+//! One group, judged: document 01's tests in document 01's order.
+
+use super::stamp::{self, STAMP_LENGTH};
+use super::table::{self, Kind, Mode};
+
+/// Why a group is refused, or what else a line tells: document 01's numbers.
+#[derive(Clone, Copy, PartialEq, Eq)]
+#[repr(u8)]
+pub enum Notice {
+    FrameSound = 2,
+    FrameFlawed = 3,
+    FrameInterrupted = 4,
+    FrameRestarted = 5,
+    GroupRestarted = 6,
+    GroupDamaged = 7,
+    TooLong = 8,
+    Misshapen = 9,
+    CheckWrong = 10,
+    LabelUnknown = 11,
+    StampWrong = 12,
+    WidthWrong = 13,
+    KindWrong = 14,
+}
+
+/// Label, stamp and data as stretches of the content. An absent stamp is an empty one.
+#[derive(Clone, Copy)]
+pub struct Fields<'content> {
+    pub label: &'content [u8],
+    pub stamp: &'content [u8],
+    pub data: &'content [u8],
+}
+
+/// Judges a content of at most 128 characters; the line has seen to that.
+pub fn judge(mode: Mode, content: &[u8]) -> Result<Fields<'_>, Notice> {
+    let separator = mode.separator();
+    let [body @ .., last_separator, check] = content else {
+        return Err(Notice::Misshapen);
+    };
+    // A body without a separator has the final one for its first.
+    let Some(label_end) = body.iter().position(|&one| one == separator) else {
+        return Err(Notice::Misshapen);
+    };
+    if *last_separator != separator || label_end == 0 {
+        return Err(Notice::Misshapen);
+    }
+    if *check != check_character(mode, body) {
+        return Err(Notice::CheckWrong);
+    }
+    let (label, rest) = (&body[..label_end], &body[label_end + 1..]);
+    let rule = table::find(mode, label).ok_or(Notice::LabelUnknown)?;
+    let (stamp, data) = match rule.season {
+        None => (&rest[..0], rest),
+        Some(season) => match rest.split_first_chunk::<STAMP_LENGTH>() {
+            Some((stamp, [tab, data @ ..]))
+                if *tab == separator && stamp::is_right(season, stamp) =>
+            {
+                (&stamp[..], data)
+            }
+            _ => return Err(Notice::StampWrong),
+        },
+    };
+    if data.len() != rule.width {
+        return Err(Notice::WidthWrong);
+    }
+    if !all_of_kind(rule.kind, data) {
+        return Err(Notice::KindWrong);
+    }
+    Ok(Fields { label, stamp, data })
+}
+
+/// The check character of what stands before the final separator. Standard mode counts that separator too.
+pub fn check_character(mode: Mode, body: &[u8]) -> u8 {
+    let sum: u32 = body.iter().map(|&one| u32::from(one)).sum();
+    let counted = match mode {
+        Mode::Historic => sum,
+        Mode::Standard => sum + u32::from(mode.separator()),
+    };
+    (counted % 64) as u8 + 32
+}
+
+fn all_of_kind(kind: Kind, data: &[u8]) -> bool {
+    match kind {
+        Kind::Decimal => data.iter().all(u8::is_ascii_digit),
+        Kind::Hexadecimal => data
+            .iter()
+            .all(|one| matches!(one, b'0'..=b'9' | b'A'..=b'F')),
+        Kind::Text => data.iter().all(|one| matches!(one, b' '..=b'~')),
+    }
+}

@@ -1,0 +1,190 @@
+//! One line: bytes to answers.
+
+use super::group::{self, Fields, Notice};
+use super::table::Mode;
+use super::wire::{self, control};
+
+const LONGEST_CONTENT: usize = 128;
+
+#[derive(Clone, Copy, PartialEq, Eq)]
+enum Phase {
+    Outside,
+    Frame,
+    Group,
+}
+
+#[derive(Clone)]
+pub struct Line {
+    mode: Mode,
+    phase: Phase,
+    /// Only looked at in a frame, and cleared where one begins: outside it may be anything.
+    flawed: bool,
+    /// These three are only looked at in a group, and cleared where one begins.
+    damaged: bool,
+    too_long: bool,
+    length: usize,
+    content: [u8; LONGEST_CONTENT],
+}
+
+/// What a byte told. The texts of an accepted group lie in the line's content until its next group begins.
+pub enum Answer<'line> {
+    Accepted(Fields<'line>),
+    Told(Notice),
+}
+
+impl Answer<'_> {
+    pub fn number(&self) -> u8 {
+        match self {
+            Answer::Accepted(_) => 1,
+            Answer::Told(notice) => *notice as u8,
+        }
+    }
+}
+
+/// What became of a byte inside the line: a group that is complete is judged when the loop over the bytes has ended.
+enum Step {
+    Quiet,
+    Complete,
+    Told(Notice),
+}
+
+impl Line {
+    pub fn new(mode: Mode) -> Line {
+        Line {
+            mode,
+            phase: Phase::Outside,
+            flawed: false,
+            damaged: false,
+            too_long: false,
+            length: 0,
+            content: [0; LONGEST_CONTENT],
+        }
+    }
+
+    /// Takes bytes from the front, up to one that gives an answer. Gives how many it took, and the answer.
+    pub fn feed(&mut self, bytes: &[u8]) -> (usize, Option<Answer<'_>>) {
+        let mut count = 0;
+        while count < bytes.len() {
+            if self.phase == Phase::Group {
+                count += self.take_text(&bytes[count..]);
+            }
+            let Some(&byte) = bytes.get(count) else {
+                break;
+            };
+            count += 1;
+            match self.step(byte) {
+                Step::Quiet => {}
+                Step::Complete => return (count, Some(self.judge())),
+                Step::Told(notice) => return (count, Some(Answer::Told(notice))),
+            }
+        }
+        (count, None)
+    }
+
+    /// Most bytes are sound characters of a group that has room for them: they are taken in a loop of their own. Gives
+    /// how many there were.
+    fn take_text(&mut self, bytes: &[u8]) -> usize {
+        let mut count = 0;
+        for (place, &byte) in self.content[self.length..].iter_mut().zip(bytes) {
+            // No control character has one of these two bits, and of those without them HT alone is common.
+            let is_text = match byte & 0x60 {
+                0 => byte == wire::HORIZONTAL_TAB,
+                _ => wire::is_sound(byte),
+            };
+            if !is_text {
+                break;
+            }
+            *place = wire::character_of(byte);
+            count += 1;
+        }
+        self.length += count;
+        count
+    }
+
+    fn step(&mut self, byte: u8) -> Step {
+        match byte {
+            control::START_OF_TEXT => self.start_frame(),
+            control::END_OF_TEXT => self.leave_frame(match self.phase {
+                Phase::Frame if !self.flawed => Notice::FrameSound,
+                _ => Notice::FrameFlawed,
+            }),
+            control::END_OF_TRANSMISSION => self.leave_frame(Notice::FrameInterrupted),
+            control::LINE_FEED => self.start_group(),
+            control::CARRIAGE_RETURN if self.phase == Phase::Group => {
+                self.phase = Phase::Frame;
+                Step::Complete
+            }
+            _ => {
+                self.take(byte);
+                Step::Quiet
+            }
+        }
+    }
+
+    fn start_frame(&mut self) -> Step {
+        let was = self.phase;
+        self.phase = Phase::Frame;
+        self.flawed = false;
+        match was {
+            Phase::Outside => Step::Quiet,
+            Phase::Frame | Phase::Group => Step::Told(Notice::FrameRestarted),
+        }
+    }
+
+    fn leave_frame(&mut self, notice: Notice) -> Step {
+        let was = self.phase;
+        self.phase = Phase::Outside;
+        match was {
+            Phase::Outside => Step::Quiet,
+            Phase::Frame | Phase::Group => Step::Told(notice),
+        }
+    }
+
+    fn start_group(&mut self) -> Step {
+        if self.phase == Phase::Outside {
+            return Step::Quiet;
+        }
+        let was = self.phase;
+        self.phase = Phase::Group;
+        self.damaged = false;
+        self.too_long = false;
+        self.length = 0;
+        if was == Phase::Group {
+            self.flawed = true;
+            return Step::Told(Notice::GroupRestarted);
+        }
+        Step::Quiet
+    }
+
+    /// Any other byte: content in a group, a flaw of a frame.
+    fn take(&mut self, byte: u8) {
+        if self.phase != Phase::Group {
+            self.flawed = true;
+        } else if !wire::is_sound(byte) {
+            self.damaged = true;
+        } else if let Some(place) = self.content.get_mut(self.length) {
+            *place = wire::character_of(byte);
+            self.length += 1;
+        } else {
+            self.too_long = true;
+        }
+    }
+
+    /// What the group that is complete gives; one that is refused leaves its frame flawed.
+    fn judge(&mut self) -> Answer<'_> {
+        let judged = if self.damaged {
+            Err(Notice::GroupDamaged)
+        } else if self.too_long {
+            Err(Notice::TooLong)
+        } else {
+            group::judge(self.mode, &self.content[..self.length])
+        };
+        match judged {
+            Ok(fields) => Answer::Accepted(fields),
+            Err(notice) => {
+                self.flawed = true;
+                Answer::Told(notice)
+            }
+        }
+    }
+}

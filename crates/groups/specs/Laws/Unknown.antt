@@ -1,0 +1,30 @@
+-- A number that is no mode's, however large: "19: mode not 0 or 1".
+use mathlib.Core.Path.{_≡_, ap}
+use mathlib.Core.Bool.{false}
+use mathlib.Core.Option.{none}
+use mathlib.Core.List.{List}
+use Prim.Native.Nat.{ℕ, _≤_}
+use native.Mathlib.Omega.{arith}
+use borrow.Author.Tests.{ne-eqb}
+use Rattle.characters.specs.Answers.{refused, found-no, pick}
+use Rattle.groups.specs.Modes.{modeOf, isKnown, isMode}
+use Rattle.groups.specs.Groups.{Group}
+use Rattle.groups.specs.Judging.{judging}
+use Rattle.groups.specs.Writing.{writing}
+use Rattle.groups.specs.declared.Refusal.the-variants.{ModeUnknown}
+
+module _ (number : ℕ) (h : 2 ≤ number) where
+  no-mode : modeOf number ≡ none
+  unfolding modeOf pick
+  no-mode = rw (ne-eqb number 0 (λ z. omega arith), ne-eqb number 1 (λ z. omega arith))
+
+  pub not-mode : isMode number ≡ false
+  not-mode = ap isKnown no-mode
+
+  pub judging-no-mode : (c : List ℕ) → judging number c ≡ refused ModeUnknown
+  unfolding judging
+  judging-no-mode c = found-no ModeUnknown _ no-mode
+
+  pub writing-no-mode : (g : Group) (room : ℕ) → writing number g room ≡ refused ModeUnknown
+  unfolding writing
+  writing-no-mode g room = found-no ModeUnknown _ no-mode
