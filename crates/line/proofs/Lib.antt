@@ -1,4 +1,4 @@
 -- Laws that only the proofs of functions need.
 pub mod Reactions
 pub mod Feeding
-pub mod Rows
+pub mod InRows

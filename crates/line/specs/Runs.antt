@@ -10,8 +10,8 @@ use Rattle.line.specs.Steps.{fed}
 use Rattle.line.specs.declared.LineState.{LineState}
 use Rattle.line.specs.declared.rules.Phase.{Phase}
 use Rattle.line.specs.declared.rules.Phase.the-variants.{Group}
-use Rattle.line.specs.declared.text.Passed.{Passed}
-use Rattle.line.specs.declared.text.Run.{Run}
+use Rattle.line.specs.declared.rows.Passed.{Passed}
+use Rattle.line.specs.declared.rows.Run.{Run}
 
 -- so many characters at the front of the bytes, added to the content of a group that holds some
 pub record Adds (held : ℕ) (content bytes : List ℕ) (count : ℕ) (left : List ℕ) : Type 0 where

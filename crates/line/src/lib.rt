@@ -3,10 +3,10 @@
 // What a line keeps is a small struct of numbers, which goes in and comes back by value, and beside it the 128 bytes of
 // its group's content, which the caller lends. Only `feed` takes bytes: those that give no answer in a row where it can,
 // and every other one by `step`.
+mod rows;
 mod rules;
 mod state;
 mod step;
-mod text;
 
 use groups::Refusal;
 use groups::Stretch;
@@ -89,9 +89,9 @@ pub fn feed(line: LineState, content: &mut [u8; 128], bytes: &[u8]) -> Taken
     let mut at = line;
     let mut i = 0;
     while i < bytes.len() {
-        let run = text::take_row(at, content, &bytes[i..]);
-        i += run.count;
-        at = run.line;
+        let row = rows::take_row(at, content, &bytes[i..]);
+        i += row.count;
+        at = row.line;
         if i == bytes.len() {
             break;
         }

@@ -1,7 +1,7 @@
 -- What is left of the bytes decides.
-use Prim.Native.Nat.{_-_, _≤_}
+use Prim.Native.Nat.{_+_, _-_, _≤_}
 use Rattle.line.proofs.Feeding.{as-fed, feed-accepted, feed-on, feed-over, feed-told}
-use Rattle.line.proofs.Rows.{run-most, run-on}
+use Rattle.line.proofs.InRows.{run-most, run-on}
 use Rattle.line.specs.Steps.{fed}
 use borrow.Author.Needs.{needs}
 use lib.ListN.{drop, length}
@@ -16,6 +16,16 @@ Inv-loop content₀ bytes at₀ i₀ content at i =
 
 abbrev μ-loop : tie.MeasureT-loop
 μ-loop content₀ bytes at₀ i₀ content at i = length bytes - i
+
+-- no more bytes are taken in a row than there are
+most : (c : tie.After-take-row Inv-loop μ-loop)
+    → let at-loop = c .before .before .before .before in
+    at-loop .loop .i + c .take-row .result .count ≤ length (at-loop .before .before .args .bytes .now)
+most c =
+    let at-loop = c .before .before .before .before in
+    let l = at-loop .loop in
+    run-most (l .at) (l .content) (at-loop .before .before .args .bytes .now) (l .i)
+    (c .before .before .before .loop-test .taken) _ _ (c .take-row .ensures)
 
 loop-holds : tie.Need-loop-holds Inv-loop μ-loop
 loop-holds c = (search needs, refl)
@@ -34,24 +44,12 @@ take-row-requires c κs = search needs
 
 add-i : tie.Need-add-i Inv-loop μ-loop
 add-i c =
-    let at-take-row = c .before in
-    let at-loop-test = at-take-row .before .before .before in
-    let at-loop = at-loop-test .before in
-    let start = at-loop .before .before in
-    let l = at-loop .loop in
-    let most = run-most (l .at) (l .content) (start .args .bytes .now) (l .i) (at-loop-test .loop-test .taken) _ _
-    (at-take-row .take-row .ensures) in
+    let m = most (c .before) in
     omega arith
 
 shared-slice-read-step : tie.Need-shared-slice-read-step Inv-loop μ-loop
 shared-slice-read-step c =
-    let at-take-row = c .before .before .before .before .before in
-    let at-loop-test = at-take-row .before .before .before in
-    let at-loop = at-loop-test .before in
-    let start = at-loop .before .before in
-    let l = at-loop .loop in
-    let most = run-most (l .at) (l .content) (start .args .bytes .now) (l .i) (at-loop-test .loop-test .taken) _ _
-    (at-take-row .take-row .ensures) in
+    let m = most (c .before .before .before .before .before) in
     omega arith
 
 step-requires : tie.Need-step-requires Inv-loop μ-loop
@@ -60,12 +58,9 @@ step-requires c κs = search needs
 add-i-2 : tie.Need-add-i-2 Inv-loop μ-loop
 add-i-2 c =
     let at-take-row = c .before .before .before .before .before .before .before in
-    let at-loop-test = at-take-row .before .before .before in
-    let at-loop = at-loop-test .before in
+    let at-loop = at-take-row .before .before .before .before in
     let start = at-loop .before .before in
-    let l = at-loop .loop in
-    let most = run-most (l .at) (l .content) (start .args .bytes .now) (l .i) (at-loop-test .loop-test .taken) _ _
-    (at-take-row .take-row .ensures) in
+    let m = most at-take-row in
     omega arith
 
 enum-told : tie.Need-enum-told Inv-loop μ-loop
@@ -73,13 +68,7 @@ enum-told c = search needs
 
 loop-less : tie.Need-loop-less Inv-loop μ-loop
 loop-less c =
-    let at-take-row = c .before .before .before .before .before .before .before .before .before in
-    let at-loop-test = at-take-row .before .before .before in
-    let at-loop = at-loop-test .before in
-    let start = at-loop .before .before in
-    let l = at-loop .loop in
-    let most = run-most (l .at) (l .content) (start .args .bytes .now) (l .i) (at-loop-test .loop-test .taken) _ _
-    (at-take-row .take-row .ensures) in
+    let m = most (c .before .before .before .before .before .before .before .before .before) in
     omega arith
 
 loop-again : tie.Need-loop-again Inv-loop μ-loop
@@ -89,12 +78,12 @@ loop-again c =
     let at-loop = at-loop-test .before in
     let start = at-loop .before .before in
     let l = at-loop .loop in
-    let most = run-most (l .at) (l .content) (start .args .bytes .now) (l .i) (at-loop-test .loop-test .taken) _ _
-    (at-take-row .take-row .ensures) in
+    let m = most at-take-row in
     let at-step = c .before .before .before in (
       omega arith,
       l .inv .1
-          ∙ run-on (l .at) (l .content) (start .args .bytes .now) (l .i) (at-loop-test .loop-test .taken) _ _ (at-take-row .take-row .ensures)
+          ∙ run-on (l .at) (l .content) (start .args .bytes .now) (l .i) (at-loop-test .loop-test .taken) _ _
+          (at-take-row .take-row .ensures)
           ∙ feed-on (at-take-row .take-row .result .line) _ (start .args .bytes .now) _ (omega arith)
           (at-step .step .result) _ (at-step .step .ensures) (c .enum-told .given .1),
     )
@@ -109,11 +98,11 @@ returns c =
     let at-loop = at-loop-test .before in
     let start = at-loop .before .before in
     let l = at-loop .loop in
-    let most = run-most (l .at) (l .content) (start .args .bytes .now) (l .i) (at-loop-test .loop-test .taken) _ _
-    (at-take-row .take-row .ensures) in
+    let m = most at-take-row in
     let at-step = c .before .before .before .before in
     as-fed _ _ (l .inv .1
-    ∙ run-on (l .at) (l .content) (start .args .bytes .now) (l .i) (at-loop-test .loop-test .taken) _ _ (at-take-row .take-row .ensures)
+    ∙ run-on (l .at) (l .content) (start .args .bytes .now) (l .i) (at-loop-test .loop-test .taken) _ _
+    (at-take-row .take-row .ensures)
     ∙ feed-accepted (at-take-row .take-row .result .line) _ (start .args .bytes .now) _ (omega arith)
     (at-step .step .result) _ (at-step .step .ensures) _ (c .before .heard .given .1))
 
@@ -127,11 +116,11 @@ returns-2 c =
     let at-loop = at-loop-test .before in
     let start = at-loop .before .before in
     let l = at-loop .loop in
-    let most = run-most (l .at) (l .content) (start .args .bytes .now) (l .i) (at-loop-test .loop-test .taken) _ _
-    (at-take-row .take-row .ensures) in
+    let m = most at-take-row in
     let at-step = c .before .before .before .before in
     as-fed _ _ (l .inv .1
-    ∙ run-on (l .at) (l .content) (start .args .bytes .now) (l .i) (at-loop-test .loop-test .taken) _ _ (at-take-row .take-row .ensures)
+    ∙ run-on (l .at) (l .content) (start .args .bytes .now) (l .i) (at-loop-test .loop-test .taken) _ _
+    (at-take-row .take-row .ensures)
     ∙ feed-told (at-take-row .take-row .result .line) _ (start .args .bytes .now) _ (omega arith)
     (at-step .step .result) _ (at-step .step .ensures) _ (c .before .heard2 .given .1))
 
@@ -149,7 +138,8 @@ returns-4 c =
     let start = at-loop .before .before in
     let l = at-loop .loop in
     as-fed _ _ (l .inv .1
-    ∙ run-on (l .at) (l .content) (start .args .bytes .now) (l .i) (at-loop-test .loop-test .taken) _ _ (at-take-row .take-row .ensures)
+    ∙ run-on (l .at) (l .content) (start .args .bytes .now) (l .i) (at-loop-test .loop-test .taken) _ _
+    (at-take-row .take-row .ensures)
     ∙ feed-over _ _ (start .args .bytes .now) _ (omega arith))
 
 pub feed-spec : {M : Type 1} → statement M

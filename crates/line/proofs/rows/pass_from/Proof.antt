@@ -1,8 +1,8 @@
 -- The phase, written as numbers.
 use borrow.Author.Needs.{needs}
-use Rattle.line.proofs.Rows.{passes-from}
-use Rattle.line.proofs.text.pass_from.Statement.{statement}
-use Rattle.line.proofs.text.pass_from.Tie as tie
+use Rattle.line.proofs.InRows.{passes-from}
+use Rattle.line.proofs.rows.pass_from.Statement.{statement}
+use Rattle.line.proofs.rows.pass_from.Tie as tie
 
 pass-requires : tie.Need-pass-requires
 pass-requires c κs = search needs

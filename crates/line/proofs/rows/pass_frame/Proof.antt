@@ -1,8 +1,8 @@
 -- An LF, or what comes.
 use borrow.Author.Needs.{needs}
-use Rattle.line.proofs.Rows.{lf-from}
-use Rattle.line.proofs.text.pass_frame.Statement.{statement}
-use Rattle.line.proofs.text.pass_frame.Tie as tie
+use Rattle.line.proofs.InRows.{lf-from}
+use Rattle.line.proofs.rows.pass_frame.Statement.{statement}
+use Rattle.line.proofs.rows.pass_frame.Tie as tie
 
 shared-slice-read-if2 : tie.Need-shared-slice-read-if2
 shared-slice-read-if2 c = search needs

@@ -3,10 +3,10 @@ use borrow.Author.Needs.{needs}
 use Prim.Native.Nat.{_-_, _≤_}
 use mathlib.Core.Path.{_∙_, sym}
 use Rattle.line.specs.Runs.{Adds}
-use Rattle.line.proofs.Rows.{adds-none, adds-one}
+use Rattle.line.proofs.InRows.{adds-none, adds-one}
 use native.Mathlib.Omega.{arith}
-use Rattle.line.proofs.text.add_text.Statement.{statement}
-use Rattle.line.proofs.text.add_text.Tie as tie
+use Rattle.line.proofs.rows.add_text.Statement.{statement}
+use Rattle.line.proofs.rows.add_text.Tie as tie
 
 abbrev Inv-loop : tie.InvT-loop
 Inv-loop content₀ held bytes end i₀ content i = (i ≤ end) × Adds held content₀ bytes i content

@@ -1,9 +1,9 @@
 -- One row behind the other.
 use borrow.Author.Needs.{needs}
-use Rattle.line.proofs.Rows.{rows-joined, rows-most, runs-with}
+use Rattle.line.proofs.InRows.{rows-joined, rows-most, runs-with}
 use native.Mathlib.Omega.{arith}
-use Rattle.line.proofs.text.take_row.Statement.{statement}
-use Rattle.line.proofs.text.take_row.Tie as tie
+use Rattle.line.proofs.rows.take_row.Statement.{statement}
+use Rattle.line.proofs.rows.take_row.Tie as tie
 
 take-quiet-requires : tie.Need-take-quiet-requires
 take-quiet-requires c κs = search needs

@@ -1,10 +1,10 @@
 -- In a group the characters are added; elsewhere nothing is taken.
 use borrow.Author.Needs.{needs}
 use Rattle.line.proofs.Reactions.{held-most}
-use Rattle.line.proofs.Rows.{runs-none, runs-on}
+use Rattle.line.proofs.InRows.{runs-none, runs-on}
 use native.Mathlib.Omega.{arith}
-use Rattle.line.proofs.text.take_text.Statement.{statement}
-use Rattle.line.proofs.text.take_text.Tie as tie
+use Rattle.line.proofs.rows.take_text.Statement.{statement}
+use Rattle.line.proofs.rows.take_text.Tie as tie
 
 phase-of-requires : tie.Need-phase-of-requires
 phase-of-requires c κs = search needs

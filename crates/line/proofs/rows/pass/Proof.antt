@@ -5,9 +5,9 @@ use lib.ListN.{length}
 use mathlib.Core.Path.{_∙_, ap, sym}
 use Rattle.line.specs.Rules.{move}
 use Rattle.line.specs.Runs.{Passes}
-use Rattle.line.proofs.Rows.{passes-none, passes-opens, passes-quiet}
-use Rattle.line.proofs.text.pass.Statement.{statement}
-use Rattle.line.proofs.text.pass.Tie as tie
+use Rattle.line.proofs.InRows.{passes-none, passes-opens, passes-quiet}
+use Rattle.line.proofs.rows.pass.Statement.{statement}
+use Rattle.line.proofs.rows.pass.Tie as tie
 
 abbrev Inv-loop : tie.InvT-loop
 Inv-loop bytes at₀ i₀ at i = Passes at₀ bytes (record { phase = at; count = i })

@@ -27,8 +27,8 @@ use Rattle.line.specs.declared.rules.Symbol.the-variants.{Stx, Etx, Eot,
 use Rattle.line.specs.declared.rules.Phase.{Phase}
 use Rattle.line.specs.declared.rules.Phase.the-variants.{Outside, Frame, Group}
 use Rattle.line.specs.declared.rules.Move.the-variants.{Quiet, Opens}
-use Rattle.line.specs.declared.text.Passed.{Passed}
-use Rattle.line.specs.declared.text.Run.{Run}
+use Rattle.line.specs.declared.rows.Passed.{Passed}
+use Rattle.line.specs.declared.rows.Run.{Run}
 
 module _ (mode : ℕ) (f d o : Bool) where
   -- the numbers of a group stand for that group

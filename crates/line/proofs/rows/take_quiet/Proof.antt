@@ -1,9 +1,9 @@
 -- In a group nothing is taken; elsewhere no content is looked at.
 use borrow.Author.Needs.{needs}
-use Rattle.line.proofs.Rows.{quiet-none, runs-in-frame, runs-outside}
+use Rattle.line.proofs.InRows.{quiet-none, runs-in-frame, runs-outside}
 use mathlib.Core.Path.{_∙_, sym}
-use Rattle.line.proofs.text.take_quiet.Statement.{statement}
-use Rattle.line.proofs.text.take_quiet.Tie as tie
+use Rattle.line.proofs.rows.take_quiet.Statement.{statement}
+use Rattle.line.proofs.rows.take_quiet.Tie as tie
 
 phase-of-requires : tie.Need-phase-of-requires
 phase-of-requires c κs = search needs
