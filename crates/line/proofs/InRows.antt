@@ -11,7 +11,6 @@ use lib.Seq.{drop-cons, drop-drop, take-all}
 use borrow.Author.Tests.{lt-ltb, le-ltb}
 use Rattle.groups.specs.Laws.Tests.{split}
 use Rattle.characters.specs.Answers.{pick}
-use Rattle.line.proofs.Reactions.{held-most}
 use Rattle.characters.specs.Wire.{LF}
 use Rattle.characters.specs.WireLaws.{control-wires}
 use Rattle.line.specs.Laws.Written.{wire-symbol}
@@ -19,7 +18,7 @@ use Rattle.line.specs.Symbols.{soundSymbol, symbolOf}
 use Rattle.line.specs.Rules.{move}
 use Rattle.line.specs.State.{phaseOf, heldIn, stateOf}
 use Rattle.line.specs.Steps.{acted, quietOf, stepped, fed}
-use Rattle.line.specs.Views.{mark-back}
+use Rattle.line.specs.Views.{held-most, mode-kept, phase-back}
 use Rattle.line.specs.Runs.{Adds, Passes, PassesFrom, Runs, RunsQuietly}
 use Rattle.line.specs.declared.LineState.{LineState}
 use Rattle.line.specs.declared.rules.Symbol.{Symbol}
@@ -31,11 +30,6 @@ use Rattle.line.specs.declared.rows.Passed.{Passed}
 use Rattle.line.specs.declared.rows.Run.{Run}
 
 module _ (mode : ℕ) (f d o : Bool) where
-  -- the numbers of a group stand for that group
-  group-back : (h : ℕ) → phaseOf (stateOf mode (Group f d o) h) ≡ Group f d o
-  unfolding phaseOf pick
-  group-back h = rw (mark-back f, mark-back d, mark-back o)
-
   held-back : (h : ℕ) → h ≤ 128 → heldIn (stateOf mode (Group f d o) h) ≡ h
   unfolding heldIn pick
   held-back h k = split 128 h (λ a. let e : h ≡ 128 = omega arith in rw (le-ltb h 128 a) (sym e)) (λ a. rw (lt-ltb h 128 a))
@@ -45,7 +39,7 @@ module _ (mode : ℕ) (f d o : Bool) where
       → stepped (stateOf mode (Group f d o) h) g b
       ≡ record { result = quietOf mode (Group f d o) (h + 1); content = set g h c }
   unfolding stepped pick
-  text-joins h g b c k e = rw (group-back h, held-back h (omega arith), e, lt-ltb h 128 k)
+  text-joins h g b c k e = rw (phase-back mode (Group f d o) h, held-back h (omega arith), e, lt-ltb h 128 k)
 
   pub text-on : (n h : ℕ) (g bs : List ℕ) (i c : ℕ) → i < length bs → h < 128 → symbolOf (getD bs i 0) ≡ Text c
       → fed n (stateOf mode (Group f d o) h) g (drop i bs)
@@ -57,7 +51,7 @@ module _ (mode : ℕ) (f d o : Bool) where
 module _ (l : LineState) (f d o : Bool) (e : phaseOf l ≡ Group f d o) where
   reads-same : (g : List ℕ) (b : ℕ) → stepped l g b ≡ stepped (stateOf (l .mode) (Group f d o) (heldIn l)) g b
   unfolding stepped
-  reads-same g b = rw (group-back (l .mode) f d o (heldIn l), held-back (l .mode) f d o (heldIn l) (held-most l), e)
+  reads-same g b = rw (phase-back (l .mode) (Group f d o) (heldIn l), held-back (l .mode) f d o (heldIn l) (held-most l), e)
 
   pub as-written : (n : ℕ) (g bs : List ℕ) → 0 < length bs
       → fed n l g bs ≡ fed n (stateOf (l .mode) (Group f d o) (heldIn l)) g bs
@@ -124,26 +118,15 @@ module _ (l : LineState) (g bs : List ℕ) (i : ℕ) (h : i < length bs) (r : Ru
 
 -- ---- A line without content
 
-empty-back : (mode : ℕ) (p : Phase) → phaseOf (stateOf mode p 0) ≡ p
-unfolding phaseOf pick
-empty-back mode Outside = refl
-empty-back mode (Frame flaw) = rw (mark-back flaw)
-empty-back mode (Group f d o) = rw (mark-back f, mark-back d, mark-back o)
-
 empty-held : (mode : ℕ) (p : Phase) → heldIn (stateOf mode p 0) ≡ 0
 unfolding heldIn pick
 empty-held mode Outside = refl
 empty-held mode (Frame flaw) = refl
 empty-held mode (Group f d o) = refl
 
-empty-mode : (mode : ℕ) (p : Phase) → stateOf mode p 0 .mode ≡ mode
-empty-mode mode Outside = refl
-empty-mode mode (Frame flaw) = refl
-empty-mode mode (Group f d o) = refl
-
 empty-steps : (mode : ℕ) (p : Phase) (g : List ℕ) (b : ℕ) → stepped (stateOf mode p 0) g b ≡ acted mode 0 g (move p (symbolOf b))
 unfolding stepped
-empty-steps mode p g b = rw (empty-back mode p, empty-held mode p, empty-mode mode p)
+empty-steps mode p g b = rw (phase-back mode p 0, empty-held mode p, mode-kept mode p 0)
 
 pub passes-none : (p : Phase) (bs : List ℕ) → Passes p bs (record { phase = p; count = 0 })
 passes-none p bs = record { most = omega arith; goes = λ mode n g. rw (add-zero n) }
@@ -207,7 +190,7 @@ module _ (l : LineState) (p : Phase) (e : phaseOf l ≡ p)
   as-empty : (n : ℕ) (g bs : List ℕ) → 0 < length bs → fed n l g bs ≡ fed n (stateOf (l .mode) p 0) g bs
   unfolding fed stepped
   as-empty n g [] h = absurd (omega arith)
-  as-empty n g (b ∷ bs) h = rw (empty-back (l .mode) p, empty-held (l .mode) p, empty-mode (l .mode) p, e, empty (heldIn l) g (symbolOf b))
+  as-empty n g (b ∷ bs) h = rw (phase-back (l .mode) p 0, empty-held (l .mode) p, mode-kept (l .mode) p 0, e, empty (heldIn l) g (symbolOf b))
 
   runs-from : {bs : List ℕ} (r : Run) → PassesFrom (l .mode) p bs r → RunsQuietly l bs r
   runs-from {bs = bs} r a = record { most = a .most; goes = λ g n h. as-empty n g bs h ∙ a .goes n g }

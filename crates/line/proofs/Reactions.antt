@@ -4,9 +4,7 @@ use mathlib.Core.Bool.{Bool, true, false}
 use mathlib.Core.List.{List}
 use Prim.Native.Nat.{ℕ, _+_, _≤_, _<_}
 use lib.ListN.{set}
-use native.Mathlib.Omega.{arith}
 use borrow.Author.Tests.{lt-ltb, le-ltb}
-use Rattle.groups.specs.Laws.Tests.{split}
 use Rattle.characters.specs.Answers.{pick}
 use Rattle.line.specs.Symbols.{symbolOf}
 use Rattle.line.specs.Rules.{move}
@@ -65,8 +63,3 @@ module _ (l : LineState) (g : List ℕ) (b : ℕ) {p : Phase} {y : Symbol} {x : 
   does-judge flaw damaged overlong e i h =
       as-stepped (acted (l .mode) n g (Judges flaw damaged overlong)) (stepped-by (Judges flaw damaged overlong) e)
       (h ∙ ap (endedOf (l .mode) flaw) i)
-
--- a line holds at most 128 characters
-pub held-most : (l : LineState) → heldIn l ≤ 128
-unfolding heldIn pick
-held-most l = split 128 (l .length) (λ h. rw (le-ltb (l .length) 128 h) (omega arith)) (λ h. rw (lt-ltb (l .length) 128 h) (omega arith))

@@ -76,12 +76,19 @@ FieldsInside (Told notice) = Unit {0}
 -- ---- The numbers of a line, and back
 
 -- a mark that is written reads as it was
-pub mark-back : (b : Bool) → isSet (boolByte b) ≡ b
+mark-back : (b : Bool) → isSet (boolByte b) ≡ b
 mark-back true = refl
 mark-back false = refl
 
+-- and so does a phase
+pub phase-back : (mode : ℕ) (p : Phase) (n : ℕ) → phaseOf (stateOf mode p n) ≡ p
+unfolding phaseOf pick
+phase-back mode Outside n = refl
+phase-back mode (Frame flaw) n = rw (mark-back flaw)
+phase-back mode (InGroup flaw damaged overlong) n = rw (mark-back flaw, mark-back damaged, mark-back overlong)
+
 -- no more than 128 characters are held
-held-most : (l : LineState) → heldIn l ≤ 128
+pub held-most : (l : LineState) → heldIn l ≤ 128
 unfolding heldIn
 held-most l =
     by-pick (λ (n : ℕ). n ≤ 128) (ltb (l .length) 128) _ _ (λ t. omega (arith, ltb→lt (l .length) 128 t))
@@ -108,7 +115,7 @@ unfolding lineOf phaseOf pick
 opened-view mode g = refl
 
 -- the mode is written as it is
-mode-kept : (mode : ℕ) (p : Phase) (n : ℕ) → stateOf mode p n .mode ≡ mode
+pub mode-kept : (mode : ℕ) (p : Phase) (n : ℕ) → stateOf mode p n .mode ≡ mode
 mode-kept mode Outside n = refl
 mode-kept mode (Frame flaw) n = refl
 mode-kept mode (InGroup flaw damaged overlong) n = refl

@@ -1,6 +1,6 @@
 -- In a group the characters are added; elsewhere nothing is taken.
 use borrow.Author.Needs.{needs}
-use Rattle.line.proofs.Reactions.{held-most}
+use Rattle.line.specs.Views.{held-most}
 use Rattle.line.proofs.InRows.{runs-none, runs-on}
 use native.Mathlib.Omega.{arith}
 use Rattle.line.proofs.rows.take_text.Statement.{statement}
