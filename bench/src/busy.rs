@@ -1,18 +1,17 @@
 //! A station whose lines are kept busy: every line reads the whole capture, and each begins at another place of it, so
 //! that the lines do not answer in step.
 
-use crate::plain::station::{INBOX, LINES};
+use crate::plain::station::{INBOX, LINES, SHEET};
 use crate::plain::table::Mode;
 use crate::stations::{Aligned, Station};
 
 /// The bytes of one delivery.
 const DELIVERY: usize = 64;
-const SHEET: usize = 1080;
 
-/// Is told of every call's answer, and of the sheet as it is after every round.
+/// Is told of every call's answer, and of the sheet and the counts as they are after every round.
 pub trait Witness {
     fn see_answer(&mut self, answer: u32);
-    fn see_sheet(&mut self, sheet: &[u8; SHEET]);
+    fn see_round(&mut self, sheet: &[u8; SHEET], counts: &[u8; LINES]);
 }
 
 /// Adds a few numbers up: just enough that no call can be left out.
@@ -26,12 +25,13 @@ impl Witness for Sum {
     }
 
     #[inline(always)]
-    fn see_sheet(&mut self, sheet: &[u8; SHEET]) {
-        self.0 += u64::from(sheet[0]) + u64::from(sheet[24]);
+    fn see_round(&mut self, sheet: &[u8; SHEET], counts: &[u8; LINES]) {
+        self.0 += u64::from(counts[0]) + u64::from(sheet[24]);
     }
 }
 
-/// Mixes every answer and every byte of every sheet into one number (FNV-1a), those that a round leaves alone included.
+/// Mixes every answer, every byte of every sheet and every count into one number (FNV-1a), with the bytes of a sheet
+/// that a round leaves alone.
 pub struct Hash(pub u64);
 
 impl Default for Hash {
@@ -53,8 +53,9 @@ impl Witness for Hash {
         self.mix(&answer.to_le_bytes());
     }
 
-    fn see_sheet(&mut self, sheet: &[u8; SHEET]) {
+    fn see_round(&mut self, sheet: &[u8; SHEET], counts: &[u8; LINES]) {
         self.mix(sheet);
+        self.mix(counts);
     }
 }
 
@@ -87,7 +88,8 @@ impl<'capture> Source<'capture> {
 pub fn run<S: Station, W: Witness>(mode: Mode, wire: &[u8], lines: usize, witness: &mut W) {
     let mut station: Aligned<S> = Aligned::default();
     let mut sheet = Aligned([0; SHEET]);
-    let (station, sheet) = (&mut station.0, &mut sheet.0);
+    let mut counts = Aligned([0; LINES]);
+    let (station, sheet, counts) = (&mut station.0, &mut sheet.0, &mut counts.0);
     let mut sources = [Source::default(); LINES];
     let sources = &mut sources[..lines];
     for (line, source) in sources.iter_mut().enumerate() {
@@ -105,12 +107,12 @@ pub fn run<S: Station, W: Witness>(mode: Mode, wire: &[u8], lines: usize, witnes
                 witness.see_answer(station.deliver(line as u32, bytes));
             }
         }
-        witness.see_answer(station.round(sheet));
-        witness.see_sheet(sheet);
+        witness.see_answer(station.round(sheet, counts));
+        witness.see_round(sheet, counts);
         let mut taken = 0;
-        for (line, source) in sources.iter_mut().enumerate() {
-            taken += usize::from(sheet[line]);
-            source.waiting -= usize::from(sheet[line]);
+        for (source, &count) in sources.iter_mut().zip(counts.iter()) {
+            taken += usize::from(count);
+            source.waiting -= usize::from(count);
         }
         if taken == 0 {
             return;

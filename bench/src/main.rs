@@ -7,6 +7,7 @@ mod listing;
 mod ours;
 mod picture;
 mod plain;
+mod stack;
 mod stations;
 mod tally;
 mod worst;
@@ -20,6 +21,7 @@ const USAGE: &str = "usage: bench make standard|historic|noisy BYTES   writes a 
        bench tally                                 plain reader: counts its answers
        bench station ours|plain LINES [check]      feeds it to so many lines; check: one number for all answers
        bench worst ours|plain TIMES [idle]         makes the worst round; idle: all but the round
+       bench stack                                 ours: the bytes of stack that each call takes
        bench time TIMES FILE COMMAND..             nanoseconds of the quickest run with the file as input
        bench picture                               draws the figures on standard input (SVG)";
 
@@ -92,6 +94,11 @@ fn run(words: &[String]) -> io::Result<bool> {
                 Reader::Plain => worst::run::<plain::station::Station>(times, with_round),
             };
             io::stdout().write_all(&sheet)?;
+        }
+        ["stack"] => {
+            for (name, bytes) in stack::table() {
+                println!("{name} {bytes}");
+            }
         }
         ["picture"] => {
             let figures = String::from_utf8_lossy(&read_all()?).into_owned();

@@ -36,10 +36,13 @@ struct Figure {
 }
 
 /// How many times the plain reader's instructions ours may take.
+const LINE_AIM: f64 = 1.25;
+const STATION_AIM: f64 = 1.35;
+
 fn aim_of(part: &str) -> Option<f64> {
     match part {
-        "line" => Some(1.25),
-        "station" => Some(2.0),
+        "line" => Some(LINE_AIM),
+        "station" => Some(STATION_AIM),
         _ => None,
     }
 }
@@ -88,7 +91,7 @@ fn legend() -> String {
          <rect class=\"plain\" x=\"400\" y=\"10\" width=\"14\" height=\"14\"/>\n  \
          <text x=\"420\" y=\"22\">plain</text>\n  \
          <path class=\"aim\" d=\"M476 8 V26\"/>\n  \
-         <text x=\"486\" y=\"22\">aim: 1.25 times plain (line), 2 times plain (station)</text>\n"
+         <text x=\"486\" y=\"22\">aim: {LINE_AIM} (line), {STATION_AIM} (station) times plain</text>\n"
     )
 }
 

@@ -1,11 +1,12 @@
 //! The two stations under the same three calls, so that one harness drives both.
 
+use crate::plain::station::LINES;
 use crate::{ours, plain};
 
 pub trait Station: Clone + Default {
     fn open(&mut self, line: u32, mode: u32) -> u32;
     fn deliver(&mut self, line: u32, bytes: &[u8]) -> u32;
-    fn round(&mut self, sheet: &mut [u8]) -> u32;
+    fn round(&mut self, sheet: &mut [u8], counts: &mut [u8; LINES]) -> u32;
 }
 
 /// Memory that begins at a multiple of 64: what it costs to copy bytes must not hang on where the stack happens to lie.
@@ -27,8 +28,8 @@ macro_rules! is_a_station {
             }
 
             #[inline(always)]
-            fn round(&mut self, sheet: &mut [u8]) -> u32 {
-                <$kind>::round(self, sheet)
+            fn round(&mut self, sheet: &mut [u8], counts: &mut [u8; LINES]) -> u32 {
+                <$kind>::round(self, sheet, counts)
             }
         }
     };

@@ -1,31 +1,31 @@
-//! Links the archive libtic.a, from the folder that the environment variable TIC_ARCHIVE_FOLDER names.
+//! Links the archive libespandim.a, from the folder that the environment variable ESPANDIM_ARCHIVE_FOLDER names.
 //!
 //! There is no folder to fall back on: an archive for another processor, or an older one, would be linked unasked.
 
 use std::path::PathBuf;
 use std::process::exit;
 
-const VARIABLE: &str = "TIC_ARCHIVE_FOLDER";
+const VARIABLE: &str = "ESPANDIM_ARCHIVE_FOLDER";
 
 fn main() {
     println!("cargo:rerun-if-env-changed={VARIABLE}");
     let Some(folder) = std::env::var_os(VARIABLE).map(PathBuf::from) else {
         eprintln!(
-            "Set {VARIABLE} to the folder of libtic.a. In the repository, `rt staticlib tic` makes it for x86-64, in \
+            "Set {VARIABLE} to the folder of libespandim.a. In the repository, `rt staticlib espandim` makes it for x86-64, in \
              target/staticlib; bindings/rust/native-archive FOLDER makes one to try on another processor."
         );
         exit(1);
     };
     // A name that is not absolute would be taken from here by this script, and from elsewhere by the linker.
-    let archive = folder.join("libtic.a");
+    let archive = folder.join("libespandim.a");
     if !folder.is_absolute() || !archive.is_file() {
         eprintln!(
-            "{VARIABLE} must be the absolute name of a folder with libtic.a in it, and is {}.",
+            "{VARIABLE} must be the absolute name of a folder with libespandim.a in it, and is {}.",
             folder.display()
         );
         exit(1);
     }
     println!("cargo:rerun-if-changed={}", archive.display());
     println!("cargo:rustc-link-search=native={}", folder.display());
-    println!("cargo:rustc-link-lib=static=tic");
+    println!("cargo:rustc-link-lib=static=espandim");
 }

@@ -6,8 +6,8 @@
  * the number of the answer and, where that is 1, label, stamp or `-`, and data, each after a space. A capture that is
  * empty, or begins otherwise, has the answer 20. Exit status 0; 1 where a file can't be read; 2 for bad usage.
  *
- * It needs no header but tic.h: what it uses of the C library is declared here, for a compiler that has none. */
-#include "../../include/tic.h"
+ * It needs no header but espandim.h: what it uses of the C library is declared here, for a compiler that has none. */
+#include "espandim.h"
 
 extern int open(const char *path, int flags, ...);
 extern long read(int file, void *bytes, size_t room);
@@ -51,7 +51,7 @@ static void show_entry(uint32_t line, const uint8_t *entry) {
     show_number(line);
     show(" ", 1);
     show_number(entry[0]);
-    if (entry[0] == TIC_ACCEPTED) {
+    if (entry[0] == ESPANDIM_ACCEPTED) {
         const uint8_t *label = entry + 4, *stamp = label + entry[1], *data = stamp + entry[2];
         show(" ", 1);
         show(label, entry[1]);
@@ -68,7 +68,7 @@ static void show_entry(uint32_t line, const uint8_t *entry) {
 }
 
 /* Opens the line of a capture by its first byte. */
-static int begin(struct tic_station *station, uint32_t line, struct source *source, const char *path) {
+static int begin(struct espandim_station *station, uint32_t line, struct source *source, const char *path) {
     uint8_t first;
     source->length = 0;
     source->file = open(path, 0);
@@ -76,7 +76,7 @@ static int begin(struct tic_station *station, uint32_t line, struct source *sour
         return 0;
     }
     if (read(source->file, &first, 1) == 1 && (first == 'H' || first == 'S')) {
-        return tic_open(station, line, first == 'H' ? TIC_HISTORIC : TIC_STANDARD) == TIC_DONE;
+        return espandim_open(station, line, first == 'H' ? ESPANDIM_HISTORIC : ESPANDIM_STANDARD) == ESPANDIM_DONE;
     }
     source->file = -1;
     show_number(line);
@@ -86,7 +86,7 @@ static int begin(struct tic_station *station, uint32_t line, struct source *sour
 
 /* Delivers what there is of a source. Where the inbox has no room for it yet, it waits here: 15 changes nothing, and
  * every round makes room. Tells whether the source has more to give. */
-static int go_on(struct tic_station *station, uint32_t line, struct source *source) {
+static int go_on(struct espandim_station *station, uint32_t line, struct source *source) {
     if (source->length == 0 && source->file >= 0) {
         long got = read(source->file, source->bytes, sizeof source->bytes);
         if (got > 0) {
@@ -95,19 +95,19 @@ static int go_on(struct tic_station *station, uint32_t line, struct source *sour
             source->file = -1;
         }
     }
-    if (source->length > 0 && tic_deliver(station, line, source->bytes, source->length) != TIC_NO_ROOM) {
+    if (source->length > 0 && espandim_deliver(station, line, source->bytes, source->length) != ESPANDIM_NO_ROOM) {
         source->length = 0;
     }
     return source->length > 0 || source->file >= 0;
 }
 
 int main(int count, char **arguments) {
-    static struct tic_station station; /* zeros: all lines closed */
-    static struct source sources[TIC_LINES];
-    static uint8_t sheet[TIC_SMALLEST_SHEET];
+    static struct espandim_station station; /* zeros: all lines closed */
+    static struct source sources[ESPANDIM_LINES];
+    static uint8_t sheet[ESPANDIM_SMALLEST_SHEET], counts[ESPANDIM_LINES];
     uint32_t lines = (uint32_t)count - 1, line;
     int more = 1;
-    if (count < 2 || count > 1 + TIC_LINES) {
+    if (count < 2 || count > 1 + ESPANDIM_LINES) {
         write(2, usage, sizeof usage - 1);
         return 2;
     }
@@ -122,13 +122,13 @@ int main(int count, char **arguments) {
         for (line = 0; line < lines; line++) {
             more |= go_on(&station, line, &sources[line]);
         }
-        tic_round(&station, sheet, sizeof sheet);
+        espandim_round(&station, sheet, sizeof sheet, counts);
         for (line = 0; line < lines; line++) {
             size_t offset = sheet[8 + 2 * line] + 256u * sheet[9 + 2 * line];
             if (offset > 0) {
                 show_entry(line, sheet + offset);
             }
-            more |= sheet[line] > 0;
+            more |= counts[line] > 0;
         }
     }
     return 0;

@@ -7,8 +7,9 @@ use super::table::Mode;
 
 pub const LINES: usize = 8;
 pub const INBOX: usize = 256;
+/// The bytes of the smallest sheet.
+pub const SHEET: usize = 1080;
 const LONGEST_TURN: usize = 64;
-const SMALLEST_SHEET: usize = 1080;
 const FIRST_ENTRY: usize = 24;
 
 /// Document 01's numbers of calls.
@@ -88,8 +89,9 @@ impl Station {
     }
 
     #[inline(never)]
-    pub fn round(&mut self, sheet: &mut [u8]) -> u32 {
-        if sheet.len() < SMALLEST_SHEET {
+    pub fn round(&mut self, sheet: &mut [u8], counts: &mut [u8; LINES]) -> u32 {
+        counts.fill(0);
+        if sheet.len() < SHEET {
             return SHEET_SHORT;
         }
         sheet[..FIRST_ENTRY].fill(0);
@@ -101,13 +103,14 @@ impl Station {
             let turn = inbox.from..inbox.to.min(inbox.from + LONGEST_TURN);
             let (count, answer) = line.feed(&inbox.bytes[turn]);
             inbox.from += count;
-            sheet[number] = count as u8;
+            counts[number] = count as u8;
             if let Some(answer) = answer {
                 let offset = (end as u16).to_le_bytes();
                 sheet[LINES + 2 * number..][..2].copy_from_slice(&offset);
                 end += write_entry(&mut sheet[end..], &answer);
             }
         }
+        sheet[..LINES].copy_from_slice(counts);
         DONE
     }
 }

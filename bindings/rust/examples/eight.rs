@@ -9,11 +9,11 @@
 
 #![forbid(unsafe_code)]
 
+use espandim::{Mode, Refusal, Station, LINES};
 use std::fs::File;
 use std::io::{self, Read, Write};
 use std::path::{Path, PathBuf};
 use std::process::ExitCode;
-use tic::{Mode, Refusal, Station, LINES};
 
 /// One source: its file, and the bytes that were read of it and are not delivered yet.
 struct Source {

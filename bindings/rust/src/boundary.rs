@@ -1,114 +1,77 @@
 //! The five functions of the archive, and a station's memory: the one module with `unsafe` in it.
 //!
-//! `include/tic.h` says what a caller owes. The functions here owe nothing to theirs, for they take references and
+//! `include/espandim.h` says what a caller owes. The functions here owe nothing to theirs, for they take references and
 //! slices, and the language sees to these: they are not null (not even an empty slice's), they are aligned, all that
 //! they say lies behind them, and that is at most `isize::MAX` bytes, which is below 2 to the 63. A `&mut` overlaps
 //! nothing else that is lent, and nobody else touches what is lent while the call runs. The archive keeps no pointer.
 
 #![deny(clippy::undocumented_unsafe_blocks)]
 
-use core::mem::{align_of, offset_of, size_of};
+use core::mem::size_of;
 
-/// `struct tic_line_state`. Only the archive reads and writes these numbers.
-#[allow(dead_code)]
-#[repr(C)]
-#[derive(Clone)]
-struct LineState {
-    mode: u8,
-    phase: u8,
-    flaw: u8,
-    damaged: u8,
-    overlong: u8,
-    /// Padding in C. It is a field here so that every byte of a station is a byte of a number.
-    gap: u8,
-    length: u16,
-}
+type Marks = [[u8; 6]; 8];
+type Places = [[u16; 3]; 8];
+type Contents = [[u8; 128]; 8];
+type Inboxes = [[u8; 256]; 8];
 
-/// `struct tic_station_line`.
-#[allow(dead_code)]
-#[repr(C)]
-#[derive(Clone)]
-struct StationLine {
-    opened: u8,
-    /// Padding in C, as above.
-    gap: u8,
-    state: LineState,
-    first: u16,
-    count: u16,
-    content: [u8; 128],
-    inbox: [u8; 256],
-}
-
-/// `struct tic_station`.
+/// `struct espandim_station`: four arrays, with a row for each line. Only the archive reads and writes these numbers.
 #[repr(C)]
 #[derive(Clone)]
 pub(crate) struct Station {
-    lines: [StationLine; 8],
+    marks: Marks,
+    places: Places,
+    contents: Contents,
+    inboxes: Inboxes,
 }
 
-// The layout that the proofs are about.
-const _: () = {
-    assert!(size_of::<LineState>() == 8);
-    assert!(offset_of!(LineState, mode) == 0);
-    assert!(offset_of!(LineState, phase) == 1);
-    assert!(offset_of!(LineState, flaw) == 2);
-    assert!(offset_of!(LineState, damaged) == 3);
-    assert!(offset_of!(LineState, overlong) == 4);
-    assert!(offset_of!(LineState, length) == 6);
-    assert!(size_of::<StationLine>() == 398);
-    assert!(offset_of!(StationLine, opened) == 0);
-    assert!(offset_of!(StationLine, state) == 2);
-    assert!(offset_of!(StationLine, first) == 10);
-    assert!(offset_of!(StationLine, count) == 12);
-    assert!(offset_of!(StationLine, content) == 14);
-    assert!(offset_of!(StationLine, inbox) == 142);
-    assert!(size_of::<Station>() == 3184);
-    assert!(align_of::<Station>() == 2);
-    assert!(size_of::<usize>() == 8); // the archive is for a machine of 64 bits
-};
-
-// The fields fill the structs, so no byte is padding.
-const _: () = {
-    assert!(size_of::<LineState>() == 6 * size_of::<u8>() + size_of::<u16>());
-    assert!(
-        size_of::<StationLine>() == 2 + size_of::<LineState>() + 2 * size_of::<u16>() + 128 + 256
-    );
-    assert!(size_of::<Station>() == 8 * size_of::<StationLine>());
-};
-
-impl StationLine {
-    const CLOSED: StationLine = StationLine {
-        opened: 0,
-        gap: 0,
-        state: LineState {
-            mode: 0,
-            phase: 0,
-            flaw: 0,
-            damaged: 0,
-            overlong: 0,
-            gap: 0,
-            length: 0,
-        },
-        first: 0,
-        count: 0,
-        content: [0; 128],
-        inbox: [0; 256],
-    };
-}
+// None of a station's bytes is padding.
+const _: () = assert!(size_of::<Station>() == 8 * (6 + 2 * 3 + 128 + 256));
+const _: () = assert!(size_of::<usize>() == 8); // the archive is for a machine of 64 bits
 
 impl Station {
     /// Zeros: all lines closed.
     pub(crate) const CLOSED: Station = Station {
-        lines: [StationLine::CLOSED; 8],
+        marks: [[0; 6]; 8],
+        places: [[0; 3]; 8],
+        contents: [[0; 128]; 8],
+        inboxes: [[0; 256]; 8],
     };
 }
 
 extern "C" {
-    fn tic_open(station: &mut Station, line: u32, mode: u32) -> u32;
-    fn tic_deliver(station: &mut Station, line: u32, bytes: *const u8, length: usize) -> u32;
-    fn tic_round(station: &mut Station, sheet: *mut u8, length: usize) -> u32;
-    fn tic_judge(mode: u32, content: *const u8, length: usize, stretches: &mut [usize; 6]) -> u32;
-    fn tic_write(
+    fn espandim_rows_open(
+        marks: &mut Marks,
+        places: &mut Places,
+        contents: &Contents,
+        inboxes: &Inboxes,
+        line: u32,
+        mode: u32,
+    ) -> u32;
+    fn espandim_rows_deliver(
+        marks: &Marks,
+        places: &mut Places,
+        contents: &Contents,
+        inboxes: &mut Inboxes,
+        line: u32,
+        bytes: *const u8,
+        length: usize,
+    ) -> u32;
+    fn espandim_rows_round(
+        marks: &mut Marks,
+        places: &mut Places,
+        contents: &mut Contents,
+        inboxes: &Inboxes,
+        sheet: *mut u8,
+        length: usize,
+        counts: &mut [u8; 8],
+    ) -> u32;
+    fn espandim_judge(
+        mode: u32,
+        content: *const u8,
+        length: usize,
+        stretches: &mut [usize; 6],
+    ) -> u32;
+    fn espandim_write(
         mode: u32,
         label: *const u8,
         label_length: usize,
@@ -123,24 +86,53 @@ extern "C" {
 }
 
 pub(crate) fn open(station: &mut Station, line: u32, mode: u32) -> u32 {
-    // SAFETY: a whole station, ours alone, of the layout above. Every line and every mode has its answer.
-    unsafe { tic_open(station, line, mode) }
+    // SAFETY: the four arrays of a whole station, ours alone. Every line and every mode has its answer.
+    unsafe {
+        espandim_rows_open(
+            &mut station.marks,
+            &mut station.places,
+            &station.contents,
+            &station.inboxes,
+            line,
+            mode,
+        )
+    }
 }
 
 pub(crate) fn deliver(station: &mut Station, line: u32, bytes: &[u8]) -> u32 {
     // SAFETY: as in `open`; pointer and length are those of one slice. The station, lent as `&mut`, can't overlap it.
-    unsafe { tic_deliver(station, line, bytes.as_ptr(), bytes.len()) }
+    unsafe {
+        espandim_rows_deliver(
+            &station.marks,
+            &mut station.places,
+            &station.contents,
+            &mut station.inboxes,
+            line,
+            bytes.as_ptr(),
+            bytes.len(),
+        )
+    }
 }
 
-pub(crate) fn round(station: &mut Station, sheet: &mut [u8]) -> u32 {
-    // SAFETY: as in `open`; pointer and length are those of one slice that may be written; two `&mut` don't overlap. A
-    // sheet that is too short is refused and not touched.
-    unsafe { tic_round(station, sheet.as_mut_ptr(), sheet.len()) }
+pub(crate) fn round(station: &mut Station, sheet: &mut [u8], counts: &mut [u8; 8]) -> u32 {
+    // SAFETY: as in `open`; pointer and length are those of one slice that may be written; no two `&mut` overlap. A sheet
+    // that is too short is refused and not touched.
+    unsafe {
+        espandim_rows_round(
+            &mut station.marks,
+            &mut station.places,
+            &mut station.contents,
+            &station.inboxes,
+            sheet.as_mut_ptr(),
+            sheet.len(),
+            counts,
+        )
+    }
 }
 
 pub(crate) fn judge(mode: u32, content: &[u8], stretches: &mut [usize; 6]) -> u32 {
     // SAFETY: pointer and length are those of one slice, which the six numbers, lent as `&mut`, can't overlap.
-    unsafe { tic_judge(mode, content.as_ptr(), content.len(), stretches) }
+    unsafe { espandim_judge(mode, content.as_ptr(), content.len(), stretches) }
 }
 
 pub(crate) fn write(
@@ -154,7 +146,7 @@ pub(crate) fn write(
     // SAFETY: each pointer and the length beside it are those of one slice. Buffer and number are lent as `&mut`, so
     // they overlap nothing; the three that are only read may overlap each other.
     unsafe {
-        tic_write(
+        espandim_write(
             mode,
             label.as_ptr(),
             label.len(),
@@ -180,8 +172,8 @@ pub(crate) fn bytes(station: &Station) -> &[u8; size_of::<Station>()] {
 mod tests {
     use super::*;
 
-    /// Document 01: 18, "sheet under 1,080 bytes", "nothing changed". [`crate::Station::round`] always lends 1,080, so
-    /// only here can it be given a shorter one.
+    /// Document 01: 18, "sheet under 1,080 bytes", "nothing changed", and "a refused round gives eight zero counts".
+    /// [`crate::Station::round`] always lends 1,080, so only here can it be given a shorter one.
     #[test]
     fn a_sheet_of_1079_bytes_is_refused_and_one_of_1080_is_not() {
         let mut station = Station::CLOSED;
@@ -189,16 +181,19 @@ mod tests {
         assert_eq!(deliver(&mut station, 3, &[0x82, 0x03]), 0);
         let before = *bytes(&station);
 
-        let mut sheet = [0xEE; 1080];
-        assert_eq!(round(&mut station, &mut sheet[..1079]), 18);
+        let (mut sheet, mut counts) = ([0xEE; 1080], [0xEE; 8]);
+        assert_eq!(round(&mut station, &mut sheet[..1079], &mut counts), 18);
         assert_eq!(*bytes(&station), before);
-        assert_eq!(sheet, [0xEE; 1080]);
-        assert_eq!(round(&mut station, &mut []), 18);
+        assert_eq!((sheet, counts), ([0xEE; 1080], [0; 8]));
+        counts = [0xEE; 8];
+        assert_eq!(round(&mut station, &mut [], &mut counts), 18);
         assert_eq!(*bytes(&station), before);
+        assert_eq!(counts, [0; 8]);
 
         // Eight counts, eight offsets, the one entry; "bytes after the last entry are unchanged".
-        assert_eq!(round(&mut station, &mut sheet), 0);
-        assert_eq!(sheet[..8], [0, 0, 0, 2, 0, 0, 0, 0]);
+        assert_eq!(round(&mut station, &mut sheet, &mut counts), 0);
+        assert_eq!(counts, [0, 0, 0, 2, 0, 0, 0, 0]);
+        assert_eq!(sheet[..8], counts);
         assert_eq!(
             sheet[8..24],
             [0, 0, 0, 0, 0, 0, 24, 0, 0, 0, 0, 0, 0, 0, 0, 0]

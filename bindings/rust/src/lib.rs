@@ -1,6 +1,6 @@
 //! Eight meters' lines, and the reader and the writer of one group, behind types that no caller can misuse.
 //!
-//! The work is done by the five functions of `include/tic.h`, which are proved in Rattle: each answer, and every byte
+//! The work is done by the five functions of `include/espandim.h`, which are proved in Rattle: each answer, and every byte
 //! that is lent, is fixed for every input. What no proof can see to is what a caller in C owes them: pointers that are
 //! not null, that are aligned, with as much behind them as is said, that don't overlap, and a whole station that nobody
 //! else touches. Here references, slices and `&mut self` stand for that: a caller owes nothing and needs no `unsafe`.
@@ -9,7 +9,7 @@
 //! "Document 01" is the customer's scope page. Its numbers are the numbers of [`Answer`], [`Notice`] and [`Refusal`].
 //!
 //! ```
-//! use tic::{Answer, Mode, Notice, Station};
+//! use espandim::{Answer, Mode, Notice, Station};
 //!
 //! let mut station = Station::new();
 //! station.open(0, Mode::Standard)?;
@@ -24,20 +24,20 @@
 //!     assert_eq!(answer.to_string(), "1 URMS1 - 230");
 //! }
 //! assert_eq!(station.round().answer(0), Some(Answer::Told(Notice::FrameSound)));
-//! # Ok::<(), tic::Refusal>(())
+//! # Ok::<(), espandim::Refusal>(())
 //! ```
 //!
 //! What a caller in C has to see to is refused by the compiler here. A buffer that overlaps what is read:
 //!
 //! ```compile_fail,E0502
 //! let mut buffer = *b"230.................";
-//! tic::write_raw(1, b"URMS1", b"", &buffer[..3], &mut buffer);
+//! espandim::write_raw(1, b"URMS1", b"", &buffer[..3], &mut buffer);
 //! ```
 //!
 //! A station that somebody else touches while a call runs:
 //!
 //! ```compile_fail,E0499
-//! let mut station = tic::Station::new();
+//! let mut station = espandim::Station::new();
 //! std::thread::scope(|both| {
 //!     both.spawn(|| station.round().counts());
 //!     both.spawn(|| station.round().counts());
@@ -47,7 +47,7 @@
 //! A part of a station instead of the whole, or one with bytes in it that no call put there:
 //!
 //! ```compile_fail,E0616
-//! let mut station = tic::Station::new();
+//! let mut station = espandim::Station::new();
 //! let part = &mut station.memory;
 //! ```
 

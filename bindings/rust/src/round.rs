@@ -56,20 +56,24 @@ impl fmt::Display for Answer<'_> {
 #[derive(Clone)]
 pub struct Round {
     sheet: [u8; SHEET],
+    counts: [u8; LINES],
 }
 
 impl Round {
     pub(crate) fn blank() -> Round {
-        Round { sheet: [0; SHEET] }
+        Round {
+            sheet: [0; SHEET],
+            counts: [0; LINES],
+        }
     }
 
-    pub(crate) fn sheet_mut(&mut self) -> &mut [u8; SHEET] {
-        &mut self.sheet
+    pub(crate) fn parts_mut(&mut self) -> (&mut [u8; SHEET], &mut [u8; LINES]) {
+        (&mut self.sheet, &mut self.counts)
     }
 
     /// How many bytes the turn of each line took.
     pub fn counts(&self) -> [u8; LINES] {
-        core::array::from_fn(|line| self.sheet[line])
+        self.counts
     }
 
     /// What this line answered, if it answered and is a line.

@@ -13,7 +13,7 @@ pub const INBOX: usize = 256;
 
 /// Eight meters' lines, 0 to 7, each with an inbox for the bytes that came off its wire.
 ///
-/// Line numbers have 32 bits: a caller's 256 would arrive as line 0, were it cut to a byte first. A station is 3,184
+/// Line numbers have 32 bits: a caller's 256 would arrive as line 0, were it cut to a byte first. A station is 3,168
 /// bytes with no pointer in them: it can stand in a `static`, be moved, and be sent to another thread.
 #[derive(Clone)]
 pub struct Station {
@@ -61,14 +61,15 @@ impl Station {
     /// It can't be refused, as the sheet that is lent for it always has the 1,080 bytes that it needs.
     pub fn round(&mut self) -> Round {
         let mut round = Round::blank();
-        outcome(boundary::round(&mut self.memory, round.sheet_mut()), 0)
+        let (sheet, counts) = round.parts_mut();
+        outcome(boundary::round(&mut self.memory, sheet, counts), 0)
             .expect("a sheet of 1,080 bytes is not refused");
         round
     }
 
     /// The station's memory, byte by byte. Two stations with the same bytes answer alike from there on; what the bytes
     /// mean is the archive's own business.
-    pub fn bytes(&self) -> &[u8; 3184] {
+    pub fn bytes(&self) -> &[u8; 3168] {
         boundary::bytes(&self.memory)
     }
 }

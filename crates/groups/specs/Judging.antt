@@ -4,6 +4,7 @@ use mathlib.Core.List.{List, []}
 use Prim.Native.Nat.{ℕ, _+_, _≤_}
 use lib.Dec.{eqb, leb}
 use lib.ListN.{length, take, drop}
+use denote.Ref.{RefT, ptr, now}
 use Rattle.characters.specs.Answers.{Answer, refused, given, found, pick}
 use Rattle.groups.specs.Modes.{modeOf}
 use Rattle.groups.specs.Groups.{Group, read}
@@ -44,6 +45,15 @@ shown (given g) =
 -- the bytes of a stretch; none where it does not fit
 unfoldable pub partOf : Stretch → List ℕ → List ℕ
 partOf s c = pick (leb (s .start + s .length) (length c)) (take (s .length) (drop (s .start) c)) []
+
+-- where they begin; at 0 where it does not fit
+unfoldable pub partStart : Stretch → List ℕ → ℕ
+partStart s c = pick (leb (s .start + s .length) (length c)) (s .start) 0
+
+-- "of its own bytes, not copies": the part of a lent content lies in the caller's memory, so far behind its beginning
+pub record Part (s : Stretch) (content part : RefT (List ℕ)) : Type 0 where
+  pub lies : ptr part ≡ (ptr content .0, partStart s (now content) + ptr content .1)
+  pub bytes : now part ≡ partOf s (now content)
 
 -- the bytes of the stretches that are shown of a content are the fields of a group
 pub record Shows (c : List ℕ) (j : Judged) (g : Group) : Type 0 where

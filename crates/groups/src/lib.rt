@@ -11,7 +11,7 @@ ghost use mathlib.Core.Path.{_≡_};
 ghost use lib.ListN.{length};
 ghost use Rattle.groups.specs.Modes.{isMode};
 ghost use Rattle.groups.specs.Groups.{groupOf};
-ghost use Rattle.groups.specs.Judging.{judging, shown, partOf};
+ghost use Rattle.groups.specs.Judging.{judging, shown, Part};
 ghost use Rattle.groups.specs.Numbers.{numberOf, numberOfRefusal, numberOfWriting};
 ghost use Rattle.groups.specs.Writing.{writing, Wrote};
 
@@ -87,7 +87,7 @@ pub fn judge(mode: u8, content: &[u8]) -> Judged
 
 // The part of the caller's own bytes that a stretch names; the empty part at their start where it does not fit.
 pub fn part(content: &[u8], stretch: Stretch) -> &[u8]
-    ensures { λ r. ⌜ now r ≡ partOf stretch (now (content .entry)) ⌝ }
+    ensures { λ r. ⌜ Part stretch (content .entry) r ⌝ }
 {
     let start = stretch.start;
     let length = stretch.length;

@@ -19,8 +19,11 @@ use input::Piece;
 use input::Reader;
 use output::Page;
 use output::Pen;
-use station::Called;
-use station::Station;
+use station::Contents;
+use station::Inboxes;
+use station::Marks;
+use station::Places;
+use station::Reply;
 ghost use mathlib.Core.Path.{_≡_};
 ghost use Prim.Native.Nat.{_≤_};
 
@@ -29,12 +32,6 @@ struct Desk {
     reader: Reader,
     pen: Pen,
     done: bool,
-}
-
-// The station after a record, and the desk.
-struct Replayed {
-    station: Station,
-    desk: Desk,
 }
 
 // The end, at what is no record.
@@ -71,56 +68,58 @@ fn begin(pen: Pen, page: &mut Page, letter: &[u8], answer: u8) -> Pen {
 }
 
 // The line of an opening or a delivery.
-fn tell(reader: Reader, pen: Pen, page: &mut Page, letter: &[u8], called: Called) -> Replayed {
-    let station = called.station;
-    let reply = called.reply;
+fn tell(reader: Reader, pen: Pen, page: &mut Page, letter: &[u8], reply: Reply) -> Desk {
     let begun = begin(pen, page, letter, station::number_of(reply));
-    Replayed {
-        station,
-        desk: finish(reader, begun, page),
-    }
+    finish(reader, begun, page)
 }
 
 fn opening(
-    station: Station,
+    marks: &mut Marks,
+    places: &mut Places,
+    contents: &mut Contents,
+    inboxes: &mut Inboxes,
     reader: Reader,
     pen: Pen,
     piece: &mut Piece,
     page: &mut Page,
-) -> Replayed {
+) -> Desk {
     let line = input::take(reader, piece);
     let at_mode = line.reader;
     let mode = input::take(at_mode, piece);
     let behind = mode.reader;
     if behind.ended {
-        return Replayed {
-            station,
-            desk: stop(behind, pen, page),
-        };
+        return stop(behind, pen, page);
     }
-    let called = station::open(station, line.byte, mode.byte);
-    tell(behind, pen, page, b"O", called)
+    let reply = station::open(marks, places, contents, inboxes, line.byte, mode.byte);
+    tell(behind, pen, page, b"O", reply)
 }
 
 fn delivery(
-    station: Station,
+    marks: &mut Marks,
+    places: &mut Places,
+    contents: &mut Contents,
+    inboxes: &mut Inboxes,
     reader: Reader,
     pen: Pen,
     piece: &mut Piece,
     page: &mut Page,
-) -> Replayed {
+) -> Desk {
     let mut room = [0u8; 4096];
     let block = input::take_block(reader, piece, &mut room);
     let behind = block.reader;
     let count = block.count;
     if behind.ended {
-        return Replayed {
-            station,
-            desk: stop(behind, pen, page),
-        };
+        return stop(behind, pen, page);
     }
-    let called = station::deliver(station, block.byte, &room[0..count]);
-    tell(behind, pen, page, b"D", called)
+    let reply = station::deliver(
+        marks,
+        places,
+        contents,
+        inboxes,
+        block.byte,
+        &room[0..count],
+    );
+    tell(behind, pen, page, b"D", reply)
 }
 
 fn put_counts(pen: Pen, page: &mut Page, counts: [u8; 8]) -> Pen {
@@ -135,43 +134,51 @@ fn put_counts(pen: Pen, page: &mut Page, counts: [u8; 8]) -> Pen {
 
 // A round with this sheet, and its line.
 fn serve(
-    station: Station,
+    marks: &mut Marks,
+    places: &mut Places,
+    contents: &mut Contents,
+    inboxes: &mut Inboxes,
     reader: Reader,
     pen: Pen,
     page: &mut Page,
     sheet: &mut [u8],
-) -> Replayed {
-    let rounded = station::round(station, sheet);
-    let after = rounded.station;
+) -> Desk {
+    let rounded = station::round(marks, places, contents, inboxes, sheet);
     let counts = rounded.counts;
     let reply = rounded.reply;
     let begun = begin(pen, page, b"R", station::number_of(reply));
     let counted = put_counts(begun, page, counts);
     let shown = output::put_hex(counted, page, sheet);
-    Replayed {
-        station: after,
-        desk: finish(reader, shown, page),
-    }
+    finish(reader, shown, page)
 }
 
 fn round(
-    station: Station,
+    marks: &mut Marks,
+    places: &mut Places,
+    contents: &mut Contents,
+    inboxes: &mut Inboxes,
     reader: Reader,
     pen: Pen,
     piece: &mut Piece,
     page: &mut Page,
-) -> Replayed {
+) -> Desk {
     let lent = input::take_lent(reader, piece);
     let behind = lent.reader;
     let count = lent.count;
     if behind.ended {
-        return Replayed {
-            station,
-            desk: stop(behind, pen, page),
-        };
+        return stop(behind, pen, page);
     }
     let mut sheet = [lent.byte; 4096];
-    serve(station, behind, pen, page, &mut sheet[0..count])
+    serve(
+        marks,
+        places,
+        contents,
+        inboxes,
+        behind,
+        pen,
+        page,
+        &mut sheet[0..count],
+    )
 }
 
 // Judges a content: its line, but for the end.
@@ -252,29 +259,23 @@ fn writing(reader: Reader, pen: Pen, piece: &mut Piece, page: &mut Page) -> Desk
 
 // The record that begins with this letter.
 fn replay(
-    station: Station,
+    marks: &mut Marks,
+    places: &mut Places,
+    contents: &mut Contents,
+    inboxes: &mut Inboxes,
     reader: Reader,
     pen: Pen,
     piece: &mut Piece,
     page: &mut Page,
     letter: u8,
-) -> Replayed {
+) -> Desk {
     match letter {
-        b'O' => opening(station, reader, pen, piece, page),
-        b'D' => delivery(station, reader, pen, piece, page),
-        b'R' => round(station, reader, pen, piece, page),
-        b'J' => Replayed {
-            station,
-            desk: judging(reader, pen, piece, page),
-        },
-        b'W' => Replayed {
-            station,
-            desk: writing(reader, pen, piece, page),
-        },
-        _ => Replayed {
-            station,
-            desk: stop(reader, pen, page),
-        },
+        b'O' => opening(marks, places, contents, inboxes, reader, pen, piece, page),
+        b'D' => delivery(marks, places, contents, inboxes, reader, pen, piece, page),
+        b'R' => round(marks, places, contents, inboxes, reader, pen, piece, page),
+        b'J' => judging(reader, pen, piece, page),
+        b'W' => writing(reader, pen, piece, page),
+        _ => stop(reader, pen, page),
     }
 }
 
@@ -286,55 +287,73 @@ fn settled(reader: Reader, pen: Pen, page: &mut Page) -> Pen {
     pen
 }
 
-fn replay_next(before: Replayed, piece: &mut Piece, page: &mut Page) -> Replayed {
-    let station = before.station;
-    let desk = before.desk;
+fn replay_next(
+    marks: &mut Marks,
+    places: &mut Places,
+    contents: &mut Contents,
+    inboxes: &mut Inboxes,
+    desk: Desk,
+    piece: &mut Piece,
+    page: &mut Page,
+) -> Desk {
     let reader = desk.reader;
     let told = desk.pen;
     let pen = settled(reader, told, page);
     if pen.closed {
-        return Replayed {
-            station,
-            desk: Desk {
-                reader,
-                pen,
-                done: true,
-            },
+        return Desk {
+            reader,
+            pen,
+            done: true,
         };
     }
     let taken = input::take(reader, piece);
     let behind = taken.reader;
     if behind.ended {
-        return Replayed {
-            station,
-            desk: Desk {
-                reader: behind,
-                pen,
-                done: true,
-            },
+        return Desk {
+            reader: behind,
+            pen,
+            done: true,
         };
     }
-    replay(station, behind, pen, piece, page, taken.byte)
+    replay(
+        marks,
+        places,
+        contents,
+        inboxes,
+        behind,
+        pen,
+        piece,
+        page,
+        taken.byte,
+    )
 }
 
 // A proved loop has to end, and nothing says that an input does: it counts down from a number that no run uses up.
 fn main() {
     let mut piece = [0u8; 4096];
     let mut page = [0u8; 4096];
-    let mut replayed = Replayed {
-        station: station::closed(),
-        desk: Desk {
-            reader: input::start(),
-            pen: output::start(),
-            done: false,
-        },
+    let mut marks = [[0u8; 6]; 8];
+    let mut places = [[0u16; 3]; 8];
+    let mut contents = [[0u8; 128]; 8];
+    let mut inboxes = [[0u8; 256]; 8];
+    let mut desk = Desk {
+        reader: input::start(),
+        pen: output::start(),
+        done: false,
     };
     let mut turns = u64::MAX;
-    while turns > 0 && !replayed.desk.done {
-        replayed = replay_next(replayed, &mut piece, &mut page);
+    while turns > 0 && !desk.done {
+        desk = replay_next(
+            &mut marks,
+            &mut places,
+            &mut contents,
+            &mut inboxes,
+            desk,
+            &mut piece,
+            &mut page,
+        );
         turns -= 1;
     }
-    let desk = replayed.desk;
     let pen = desk.pen;
     output::flush(pen, &mut page);
 }

@@ -4,68 +4,56 @@ use mathlib.Core.List.{List, [], _++_}
 use Prim.Native.Nat.{ℕ, _+_, _-_, _≤_, _<_}
 use native.Mathlib.Omega.{arith}
 use lib.Dec.{eqb, ltb}
-use lib.ListN.{length, take, drop, set, length-take, length-drop}
+use lib.ListN.{length, take, drop, getD, set, length-take, length-drop}
 use lib.Seq.{paste, set-getD}
 use borrow.Author.Tests.{lt-ltb, le-ltb, le-leb, lt-leb, eq-eqb, ne-eqb}
 use Rattle.characters.specs.Answers.{Answer, refused, given, need, pick}
 use Rattle.station.specs.Lines.{waiting, oldest, over, added, filling}
 use Rattle.station.specs.Stations.{zeroLine, lineAt, withLine, called, filledAt, delivering}
-use Rattle.station.specs.Parts.{spanOf, filled}
-use Rattle.station.specs.Laws.Views.{waiting-most, waiting-at}
-use Rattle.station.specs.declared.StationLine.{StationLine}
-use Rattle.station.specs.declared.Station.{Station}
-use Rattle.station.specs.declared.Called.{Called}
+use Rattle.station.specs.Laws.Views.{waiting-most, waiting-at, lineLeft}
+use Rattle.station.specs.Records.{StationLine, Station}
 use Rattle.station.specs.declared.Refusal.{Refusal}
 use Rattle.station.specs.declared.Refusal.the-variants.{NoRoom, LineClosed}
+use Rattle.station.specs.declared.Reply.{Reply}
 use Rattle.station.specs.declared.Reply.the-variants.{Done, Refused}
-use Rattle.station.specs.declared.inbox.Span.{Span}
-use Rattle.station.specs.declared.inbox.Filled.{Filled}
 use Rattle.station.proofs.Copying.{paste-over}
+use Rattle.station.specs.Memory.{ofRows, lineFrom, linesFrom, stationIn, Sized}
+use Rattle.station.specs.Laws.Memory.{row-inside, line-at, line-set}
+use Rattle.station.specs.Contracts.{calledAs, Delivers}
+use Rattle.station.specs.Parts.{Waits, WaitsBy, replyTo, Fills}
 
 -- ---- Where the waiting bytes lie
 
-module _ (l : StationLine) (long : length (l .inbox) ≡ 256) where
-  spans : (from to : ℕ) → from ≡ oldest l → to ≡ from + length (waiting l)
-      → _≡_ {A = Span} (record { from = from; to = to }) (spanOf l)
-  spans from to e h =
-      ap₂ (λ (a b : ℕ). record { from = a; to = b }) e (h ∙ ap (λ (a : ℕ). a + length (waiting l)) e)
-
-  pub past-end : 256 < l .first → _≡_ {A = Span} (record { from = 256; to = 256 }) (spanOf l)
-  unfolding oldest waiting pick
-  past-end h = spans 256 256 (rw (lt-ltb 256 (l .first) h)) (simp (length-take, length-drop) (omega arith))
-
-  pub cut-short : l .first ≤ 256 → 256 - l .first < l .count
-      → _≡_ {A = Span} (record { from = l .first; to = 256 }) (spanOf l)
-  unfolding oldest waiting pick
-  cut-short h k =
-      spans (l .first) 256 (rw (le-ltb 256 (l .first) h)) (simp (length-take, length-drop) (omega arith))
-
-  pub all-there : l .first ≤ 256 → l .count ≤ 256 - l .first
-      → _≡_ {A = Span} (record { from = l .first; to = l .first + l .count }) (spanOf l)
-  unfolding oldest waiting pick
-  all-there h k =
-      spans (l .first) (l .first + l .count) (rw (le-ltb 256 (l .first) h))
-      (simp (length-take, length-drop) (omega arith))
-
--- what a span tells
-pub record Spans (l : StationLine) (p : Span) : Type 0 where
-  pub order : p .from ≤ p .to
-  pub fits : p .to ≤ 256
-  pub part : take (p .to - p .from) (drop (p .from) (l .inbox)) ≡ waiting l
-  pub count : length (waiting l) ≡ p .to - p .from
-
-pub its-span : (l : StationLine) (p : Span) → length (l .inbox) ≡ 256 → p ≡ spanOf l → Spans l p
-its-span l p long e =
-    let n : oldest l + length (waiting l) - oldest l ≡ length (waiting l) = omega arith in
-    rw e
-    (record {
+-- two places that are the right ones have what the record tells
+waits-at : (l : StationLine) (from to : ℕ) → length (l .inbox) ≡ 256 → from ≡ oldest l → to ≡ from + length (waiting l)
+    → Waits l from to
+waits-at l from to long e h =
+    let n : to - from ≡ length (waiting l) = omega arith in
+    let m = waiting-most l long in
+    record {
+      start = e;
       order = omega arith;
-      fits = waiting-most l long;
-      part = rw n (waiting-at l long);
+      fits = omega arith;
+      part = rw (n, e) (waiting-at l long);
       count = omega arith;
-    })
+    }
 
--- ---- Deliveries
+pub past-end : (first count : ℕ) → 256 < first → WaitsBy first count 256 256
+unfolding oldest waiting pick
+past-end first count h l ef ec long =
+    waits-at l 256 256 long (rw (ef, lt-ltb 256 first h)) (simp (length-take, length-drop) (omega arith))
+
+pub cut-short : (first count : ℕ) → first ≤ 256 → 256 - first < count → WaitsBy first count first 256
+unfolding oldest waiting pick
+cut-short first count h k l ef ec long =
+    waits-at l first 256 long (rw (ef, le-ltb 256 first h)) (simp (length-take, length-drop) (omega arith))
+
+pub all-there : (first count : ℕ) → first ≤ 256 → count ≤ 256 - first → WaitsBy first count first (first + count)
+unfolding oldest waiting pick
+all-there first count h k l ef ec long =
+    waits-at l first (first + count) long (rw (ef, le-ltb 256 first h)) (simp (length-take, length-drop) (omega arith))
+
+-- ---- Deliveries to a line
 
 -- what waits, copied to the front, and the bytes behind it
 pub laid-is : (inbox bytes x y : List ℕ) (from to : ℕ) → length inbox ≡ 256 → from ≤ to → to ≤ 256
@@ -79,62 +67,72 @@ laid-is inbox bytes x y from to long h i j p q =
     let z : x ≡ over w inbox = p ∙ paste-over [] inbox w 0 refl (omega arith) in
     q ∙ rw z (paste-over w inbox bytes (to - from) k (omega arith))
 
--- 17
-pub fill-closed : (l : StationLine) (bytes : List ℕ) → l .opened ≡ 0
-    → _≡_ {A = Filled} (record { line = l; reply = Refused LineClosed }) (filled l (filling l bytes))
-unfolding filling need
-fill-closed l bytes h = rw (eq-eqb (l .opened) 0 h)
+-- a refused delivery, with the rows that it leaves
+pub stopped : (marks places content inbox places' inbox' bytes : List ℕ) (reply reply' : Reply)
+    → Fills (lineFrom marks places content inbox) bytes reply (lineFrom marks places content inbox)
+    → (reply' ≡ reply) × (places' ≡ places) × (inbox' ≡ inbox)
+    → Fills (lineFrom marks places content inbox) bytes reply' (lineFrom marks places' content inbox')
+stopped marks places content inbox places' inbox' bytes reply reply' f (e, h, k) = rw (e, h, k) f
 
-module _ (l : StationLine) (p : Span) (long : length (l .inbox) ≡ 256) (e : p ≡ spanOf l) (h : l .opened ≡ 0 → ⊥)
-    (bytes : List ℕ) where
+-- 17
+pub fill-closed : (l : StationLine) (bytes : List ℕ) → l .opened ≡ 0 → Fills l bytes (Refused LineClosed) l
+unfolding filling need
+fill-closed l bytes h =
+    let e = eq-eqb (l .opened) 0 h in
+    record { reply-is = rw e; line-is = rw e }
+
+module _ (l : StationLine) (from to : ℕ) (w : Waits l from to) (h : l .opened ≡ 0 → ⊥) (bytes : List ℕ) where
   -- 15
-  pub fill-over : 256 - (p .to - p .from) < length bytes
-      → _≡_ {A = Filled} (record { line = l; reply = Refused NoRoom }) (filled l (filling l bytes))
+  pub fill-over : 256 - (to - from) < length bytes → Fills l bytes (Refused NoRoom) l
   unfolding filling need
   fill-over k =
-      let s = its-span l p long e in
-      rw (
-        ne-eqb (l .opened) 0 h,
-        lt-leb (length (waiting l) + length bytes) 256 (omega (arith, s .count, s .order, s .fits)),
-      )
+      let e = ne-eqb (l .opened) 0 h in
+      let f = lt-leb (length (waiting l) + length bytes) 256 (omega (arith, w .count, w .order, w .fits)) in
+      record { reply-is = rw (e, f); line-is = rw (e, f) }
 
-  pub fill-done : length bytes ≤ 256 - (p .to - p .from) → (inbox : List ℕ)
-      → inbox ≡ over (take (p .to - p .from) (drop (p .from) (l .inbox)) ++ bytes) (l .inbox)
-      → _≡_ {A = Filled} (record {
-        line = record {
-          opened = l .opened;
-          state = l .state;
-          first = 0;
-          count = p .to - p .from + length bytes;
-          content = l .content;
-          inbox = inbox;
-        };
-        reply = Done;
+  pub fill-done : length bytes ≤ 256 - (to - from) → (inbox : List ℕ)
+      → inbox ≡ over (take (to - from) (drop from (l .inbox)) ++ bytes) (l .inbox)
+      → Fills l bytes Done
+      (record {
+        opened = l .opened;
+        state = l .state;
+        first = 0;
+        count = to - from + length bytes;
+        content = l .content;
+        inbox = inbox;
       })
-      (filled l (filling l bytes))
   unfolding filling need
   fill-done k inbox i =
-      let s = its-span l p long e in
-      rw (
-        i,
-        s .part,
-        ne-eqb (l .opened) 0 h,
-        le-leb (length (waiting l) + length bytes) 256 (omega (arith, s .count, s .order, s .fits)),
-        s .count,
-      )
+      let e = ne-eqb (l .opened) 0 h in
+      let f = le-leb (length (waiting l) + length bytes) 256 (omega (arith, w .count, w .order, w .fits)) in
+      record { reply-is = rw (e, f); line-is = rw (i, w .part, e, f, w .count) }
 
--- storing the line that a delivery leaves is the delivery, also where it is refused and the line is as it was
-pub delivery-stored : (s : Station) (i : ℕ) (bytes : List ℕ) (f : Filled) → i < 8
-    → f ≡ filled (lineAt s i) (filling (lineAt s i) bytes)
-    → _≡_ {A = Called} (record { station = record { lines = set (s .lines) i (f .line) }; reply = f .reply })
-    (called s (delivering s i bytes))
-unfolding delivering need
-delivery-stored s i bytes f h e = rw (e, lt-ltb i 8 h) (stored (filling (lineAt s i) bytes))
-  where
-    stored : (a : Answer Refusal StationLine)
-        → _≡_ {A = Called} (record { station = withLine s i (filled (lineAt s i) a .line); reply = filled (lineAt s i) a .reply })
-        (called s (filledAt s i a))
-    stored (given l) = refl
-    stored (refused refusal) =
-        ap (λ (ls : List StationLine). record { station = record { lines = ls }; reply = Refused refusal })
-        (set-getD (s .lines) i (zeroLine [] []))
+-- ---- Deliveries to the station
+
+module _ (ms ps cs bs : List (List ℕ)) (z : Sized (ofRows ms ps cs bs))
+    (i : ℕ) (bytes : List ℕ) where
+  -- the rows of a line are stored, and with them the line
+  pub delivered : (reply : Reply) (p b : List ℕ) → i < 8
+      → Fills (lineFrom (getD ms i []) (getD ps i []) (getD cs i []) (getD bs i [])) bytes reply
+      (lineFrom (getD ms i []) p (getD cs i []) b)
+      → Delivers (ofRows ms ps cs bs) i bytes reply
+      (ofRows ms (set ps i p) cs (set bs i b))
+  unfolding delivering need
+  delivered reply p b h f =
+      let s = stationIn (ofRows ms ps cs bs) in
+      let l = lineFrom (getD ms i []) (getD ps i []) (getD cs i []) (getD bs i []) in
+      let sizes = row-inside _ z i h in
+      let e : lineAt s i ≡ l = line-at ms ps cs bs i (sizes .0) (sizes .1) (sizes .2) (sizes .3) in
+      let t = lt-ltb i 8 h in
+      let same : withLine s i l ≡ s = rw (← e, set-getD (s .lines) i (zeroLine [] [])) in
+      let stored : linesFrom ms (set ps i p) cs (set bs i b)
+      ≡ set (linesFrom ms ps cs bs) i (lineFrom (getD ms i []) p (getD cs i []) b) =
+      rw (set-getD ms i [], set-getD cs i []) at (line-set ms ps cs bs i (getD ms i []) p (getD cs i []) b) in
+      ap₂ calledAs
+      (ap (λ (ls : List StationLine). record { lines = ls }) stored ∙ ap (withLine s i) (f .line-is)) (f .reply-is)
+      ∙ rw (t, e) (left s l (filling l bytes) same)
+    where
+      left : (s : Station) (l : StationLine) (a : Answer Refusal StationLine) → withLine s i l ≡ s
+          → calledAs (withLine s i (lineLeft l a)) (replyTo a) ≡ called s (filledAt s i a)
+      left s l (given next) e = refl
+      left s l (refused refusal) e = ap (λ (t : Station). calledAs t (Refused refusal)) e

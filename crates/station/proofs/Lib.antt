@@ -7,3 +7,4 @@ pub mod Entries
 pub mod Serving
 pub mod Typed
 pub mod Rounding
+pub mod RowsServing

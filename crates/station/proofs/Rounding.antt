@@ -10,14 +10,10 @@ use Rattle.characters.specs.Answers.{need}
 use Rattle.station.specs.Lines.{over, turning}
 use Rattle.station.specs.Sheets.{Told, counts, joined, twoBytes, offsets, entries, sheetOf}
 use Rattle.station.specs.Rounds.{turns, tells, toldOf, Round, round}
-use Rattle.station.specs.Parts.{Serves}
-use Rattle.station.specs.declared.StationLine.{StationLine}
-use Rattle.station.specs.declared.Station.{Station}
-use Rattle.station.specs.declared.Rounded.{Rounded}
+use Rattle.station.specs.Parts.{ServesLines}
+use Rattle.station.specs.Records.{StationLine, Station, Turned}
 use Rattle.station.specs.declared.Refusal.the-variants.{SheetShort}
 use Rattle.station.specs.declared.Reply.the-variants.{Done, Refused}
-use Rattle.station.specs.declared.turn.Turned.{Turned}
-use Rattle.station.specs.declared.serve.Served.{Served}
 use Rattle.station.proofs.Copying.{paste-over, paste-is-over}
 
 -- 18
@@ -54,19 +50,19 @@ counts-told : (ts : List Turned) → counts (map tells ts) ≡ map (λ (t : Turn
 counts-told [] = refl
 counts-told (t ∷ ts) = ap (λ (r : List ℕ). t .count ∷ r) (counts-told ts)
 
-pub round-done : (s : Station) (sheet x y z : List ℕ) (v : Served) → 1080 ≤ length sheet → length (v .counts) ≡ 8
-    → length (v .offsets) ≡ 16 → Serves (s .lines) sheet v x → y ≡ paste x 0 (v .counts) (length (v .counts))
-    → z ≡ paste y 8 (v .offsets) (length (v .offsets))
-    → Round (round s sheet) (record { station = v .station; counts = v .counts; reply = Done }) z
+pub round-done : (s : Station) (ls : List StationLine) (sheet counts offsets x y z : List ℕ) → 1080 ≤ length sheet
+    → length counts ≡ 8 → length offsets ≡ 16 → ServesLines (s .lines) sheet ls counts offsets x
+    → y ≡ paste x 0 counts (length counts) → z ≡ paste y 8 offsets (length offsets)
+    → Round (round s sheet) (record { station = record { lines = ls }; counts = counts; reply = Done }) z
 unfolding turns need sheetOf
-round-done s sheet x y z v h n m e p q =
-    let k : z ≡ paste (paste x 0 (v .counts) (length (v .counts))) 8 (v .offsets) (length (v .offsets)) = rw p at q in
-    let w = sheet-laid (v .counts) (v .offsets) (entries (toldOf s)) sheet n m (omega arith) in
+round-done s ls sheet counts offsets x y z h n m e p q =
+    let k : z ≡ paste (paste x 0 counts (length counts)) 8 offsets (length offsets) = rw p at q in
+    let w = sheet-laid counts offsets (entries (toldOf s)) sheet n m (omega arith) in
     rw (le-leb 1080 (length sheet) h)
     (record {
       results =
-          ap₂ (λ (ls : List StationLine) (c : List ℕ). record { station = record { lines = ls }; counts = c; reply = Done })
-          (e .lines) (e .counts);
+          ap₂ (λ (l : List StationLine) (c : List ℕ). record { station = record { lines = l }; counts = c; reply = Done })
+          (e .lines-are) (e .counts-are);
       leaves =
-          k ∙ rw (e .sheet-is) (w ∙ rw (e .counts, e .offsets, counts-told (map turning (s .lines))));
+          k ∙ rw (e .sheet-is) (w ∙ rw (e .counts-are, e .offsets-are, counts-told (map turning (s .lines))));
     })

@@ -5,7 +5,7 @@ use Prim.Native.Nat.{ℕ, zero, suc, _+_, _-_, _*_, _%_, _/_, _≤_, _<_}
 use native.Mathlib.Omega.{arith}
 use lib.Dec.{leb→le}
 use lib.ListN.{length, take, drop, getD, set, replicate, length-append, take-append-drop}
-use lib.Seq.{paste, set-at, getD-at, append-snoc, length-take-le}
+use lib.Seq.{paste, paste-zero, set-at, set-getD, getD-at, getD-set-other, append-snoc, length-take-le}
 use Rattle.line.specs.Steps.{heardAnswer}
 use Rattle.line.specs.Views.{FieldsInside}
 use Rattle.line.specs.Laws.Heard.{heard-nothing, heard-told, heard-accepted}
@@ -15,11 +15,9 @@ use Rattle.station.specs.Lines.{over, turning}
 use Rattle.station.specs.Stations.{zeroLine}
 use Rattle.station.specs.Sheets.{Told, shownIf, entryOf, offsetOf, twoBytes, offsets, joined, entries}
 use Rattle.station.specs.Rounds.{tells}
-use Rattle.station.specs.Parts.{entryHeard, offsetHeard, toldBy, Serves}
+use Rattle.station.specs.Parts.{entryHeard, offsetHeard, toldBy, ServesLines}
 use Rattle.station.specs.Laws.Views.{Long, Longs, no-lines, one-line, turn-view, turn-short}
-use Rattle.station.specs.declared.StationLine.{StationLine}
-use Rattle.station.specs.declared.turn.Turned.{Turned}
-use Rattle.station.specs.declared.serve.Served.{Served}
+use Rattle.station.specs.Records.{StationLine, Turned}
 use Rattle.station.proofs.Copying.{paste-over}
 
 -- the lines, the counts and the offsets so far, the place of the next entry, and the sheet
@@ -81,6 +79,60 @@ serve-more whole lines counts offsets sheet at i t offset at' sheet' h et eo ea 
     let v : Progress = record { lines = lines; counts = counts; offsets = offsets; at = at; sheet = sheet } in
     let next : servedFrom (8 - i) i v ≡ servedFrom (8 - (i + 1)) (i + 1) (servedOne i t v) = rw (z, et) in
     e ∙ next ∙ rw (eo, ea, es)
+
+-- zeros from a place on
+abbrev pub ZerosFrom : ℕ → List ℕ → Type 0
+ZerosFrom i xs = (j : ℕ) → i ≤ j → getD xs j 0 ≡ 0
+
+pub zeros-at-first : (n : ℕ) → ZerosFrom 0 (replicate n 0)
+zeros-at-first zero j h = refl
+zeros-at-first (suc n) zero h = refl
+zeros-at-first (suc n) (suc j) h = zeros-at-first n j (omega arith)
+
+-- fewer of them, once something is stored before
+pub zeros-on : (i m : ℕ) (xs : List ℕ) → ZerosFrom i xs → i ≤ m → ZerosFrom m xs
+zeros-on i m xs z h j k = z j (omega arith)
+
+pub zeros-behind : (i m k x : ℕ) (xs : List ℕ) → ZerosFrom i xs → i ≤ m → k < m → ZerosFrom m (set xs k x)
+zeros-behind i m k x xs z h l j e = getD-set-other xs k j x 0 (λ (same : j ≡ k). omega arith) ∙ z j (omega arith)
+
+pub zeros-behind-two : (i x y : ℕ) (xs : List ℕ) → ZerosFrom (2 * i) xs
+    → ZerosFrom (2 * (i + 1)) (set (set xs (2 * i) x) (2 * i + 1) y)
+zeros-behind-two i x y xs z =
+    zeros-behind (2 * i + 1) (2 * (i + 1)) (2 * i + 1) y (set xs (2 * i) x)
+    (zeros-behind (2 * i) (2 * i + 1) (2 * i) x xs z (omega arith) (omega arith)) (omega arith) (omega arith)
+
+zero-kept : (xs : List ℕ) (i : ℕ) → getD xs i 0 ≡ 0 → set xs i 0 ≡ xs
+zero-kept xs i h = rw h at (set-getD xs i 0)
+
+no-entry : (content : List ℕ) → entryHeard heard.Nothing content ≡ []
+unfolding entryHeard
+no-entry content = rw (heard-nothing content)
+
+-- a line without a turn leaves all as it was, where zeros stand for it already
+pub serve-none : (whole : Progress) (lines : List StationLine) (counts offsets sheet : List ℕ) (at i : ℕ) → i < 8
+    → turning (getD lines i (zeroLine [] []))
+    ≡ record { line = getD lines i (zeroLine [] []); count = 0; heard = heard.Nothing }
+    → ZerosFrom i counts → ZerosFrom (2 * i) offsets
+    → whole
+    ≡ servedFrom (8 - i) i
+    (record { lines = lines; counts = counts; offsets = offsets; at = at; sheet = sheet })
+    → whole
+    ≡ servedFrom (8 - (i + 1)) (i + 1)
+    (record { lines = lines; counts = counts; offsets = offsets; at = at; sheet = sheet })
+serve-none whole lines counts offsets sheet at i h t c o e =
+    let l = getD lines i (zeroLine [] []) in
+    let n = no-entry (l .content) in
+    let k : at ≡ at + 0 = omega arith in
+    let more = serve-more whole lines counts offsets sheet at i (record { line = l; count = 0; heard = heard.Nothing }) 0 at
+    sheet h (sym t) refl (rw n k) (rw n (paste-zero sheet at [])) e in
+    more
+    ∙ rw (
+      set-getD lines i (zeroLine [] []),
+      zero-kept counts i (c i (omega arith)),
+      zero-kept offsets (2 * i) (o (2 * i) (omega arith)),
+      zero-kept offsets (2 * i + 1) (o (2 * i + 1) (omega arith)),
+    )
 
 -- none left
 pub serve-end : (whole v : Progress) (i : ℕ) → 8 ≤ i → whole ≡ servedFrom (8 - i) i v → whole ≡ v
@@ -241,14 +293,9 @@ all-served ls sheet e hs h =
     rw (zeros-are ls, pairs-are ls, e, over-own 24 sheet (omega arith)) at d
 
 -- what the loop leaves is what the turns of the lines leave
-pub serves-all : (ls : List StationLine) (sheet : List ℕ) (v : Progress) (r : Served) (after : List ℕ) → length ls ≡ 8
-    → Longs ls → 1080 ≤ length sheet → servedAll ls sheet ≡ v → r .station .lines ≡ v .lines
-    → r .counts ≡ v .counts → r .offsets ≡ v .offsets → after ≡ v .sheet → Serves ls sheet r after
-serves-all ls sheet v r after e hs h ev el ec eo es =
+pub serves-all : (ls : List StationLine) (sheet : List ℕ) (v : Progress) → length ls ≡ 8 → Longs ls
+    → 1080 ≤ length sheet → servedAll ls sheet ≡ v
+    → ServesLines ls sheet (v .lines) (v .counts) (v .offsets) (v .sheet)
+serves-all ls sheet v e hs h ev =
     let d : Done v [] ls [] [] (take 24 sheet) sheet 24 = rw ev at (all-served ls sheet e hs h) in
-    record {
-      lines = el ∙ d .lines-are;
-      counts = ec ∙ d .counts-are;
-      offsets = eo ∙ d .offsets-are;
-      sheet-is = es ∙ d .sheet-is;
-    }
+    record { lines-are = d .lines-are; counts-are = d .counts-are; offsets-are = d .offsets-are; sheet-is = d .sheet-is }

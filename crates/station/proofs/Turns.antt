@@ -1,5 +1,5 @@
 -- The ways through `turn`, over plain variables.
-use mathlib.Core.Path.{_≡_, refl, sym, ap, _∙_, subst}
+use mathlib.Core.Path.{_≡_, refl, sym, ap, _∙_}
 use mathlib.Core.List.{List}
 use Prim.Native.Nat.{ℕ, _+_, _-_, _≤_}
 use native.Mathlib.Omega.{arith}
@@ -15,86 +15,72 @@ use Rattle.line.specs.Views.{fed-view, until-most}
 use Rattle.line.specs.declared.Taken.{Taken}
 use Rattle.line.specs.declared.Heard.the-variants.{Nothing}
 use Rattle.station.specs.Lines.{waiting, turning}
-use Rattle.station.specs.Parts.{spanOf, endOf, Bounded}
-use Rattle.station.specs.Laws.Views.{Long, turn-view}
-use Rattle.station.specs.declared.StationLine.{StationLine}
-use Rattle.station.specs.declared.inbox.Span.{Span}
-use Rattle.station.specs.declared.turn.Turned.{Turned}
-use Rattle.station.proofs.Inboxes.{Spans, its-span}
+use Rattle.station.specs.Parts.{Waits, endOf, Turns}
+use Rattle.station.specs.Laws.Views.{Long}
+use Rattle.station.specs.Records.{StationLine}
 
--- a turn that is the definition's has its bounds
-turn-bounded : (l : StationLine) → Long l → (t : Turned) → t ≡ turning l → (t ≡ turning l) × Bounded t
-turn-bounded l long t e =
-    let v = turn-view l long in
-    (e, subst Bounded (sym e) (record { count-most = v .count-most; inside = v .inside }))
-
-pub turn-closed : (l : StationLine) → Long l → l .opened ≡ 0
-    → (_≡_ {A = Turned} (record { line = l; count = 0; heard = Nothing }) (turning l))
-    × Bounded (record { line = l; count = 0; heard = Nothing })
+-- a closed line has no turn
+pub closed-turn : (l : StationLine) → l .opened ≡ 0 → turning l ≡ record { line = l; count = 0; heard = Nothing }
 unfolding turning pick
-turn-closed l long h =
-    turn-bounded l long (record { line = l; count = 0; heard = Nothing }) (rw (eq-eqb (l .opened) 0 h))
+closed-turn l h = rw (eq-eqb (l .opened) 0 h)
 
-module _ (l : StationLine) (long : Long l) (p : Span) (e : p ≡ spanOf l) (end : ℕ) (h : end ≡ endOf (p .from) (p .to)) where
+pub turn-closed : (l : StationLine) → l .opened ≡ 0 → Turns l l 0 Nothing
+turn-closed l h =
+    let e = closed-turn l h in
+    record { line-is = rw e; count-is = rw e; heard-is = rw e; count-most = omega arith; inside = tt }
+
+module _ (l : StationLine) (long : Long l) (from to : ℕ) (w : Waits l from to) (end : ℕ) (h : end ≡ endOf from to) where
   -- the end lies between the first waiting byte and the end of those that wait
-  pub end-places : (p .from ≤ end) × (end ≤ p .to)
+  pub end-places : (from ≤ end) × (end ≤ to)
   unfolding endOf pick
   end-places =
-      let s = its-span l p (long .inbox) e in
-      split (p .to - p .from) 64
-      (λ k. rw (h, le-ltb 64 (p .to - p .from) k) (s .order, omega arith))
-      (λ k. rw (h, lt-ltb 64 (p .to - p .from) k) (omega arith, omega arith))
+      split (to - from) 64
+      (λ k. rw (h, le-ltb 64 (to - from) k) (w .order, omega arith))
+      (λ k. rw (h, lt-ltb 64 (to - from) k) (omega arith, omega arith))
 
   -- the bytes up to it are the oldest 64 of those that wait
-  pub turn-bytes : take (end - p .from) (drop (p .from) (l .inbox)) ≡ take 64 (waiting l)
+  pub turn-bytes : take (end - from) (drop from (l .inbox)) ≡ take 64 (waiting l)
   unfolding endOf pick
   turn-bytes =
-      let s = its-span l p (long .inbox) e in
-      split (p .to - p .from) 64
-      (λ k. rw (h, le-ltb 64 (p .to - p .from) k) (s .part ∙ sym (take-all 64 (waiting l) (omega (arith, s .count)))))
+      split (to - from) 64
+      (λ k. rw (h, le-ltb 64 (to - from) k) (w .part ∙ sym (take-all 64 (waiting l) (omega (arith, w .count)))))
       (λ k.
-      let z : p .from + 64 - p .from ≡ 64 = omega arith in
-      let w : take 64 (take (p .to - p .from) (drop (p .from) (l .inbox))) ≡ take 64 (drop (p .from) (l .inbox)) =
-      take-take 64 (p .to - p .from) (drop (p .from) (l .inbox)) (omega arith) in
-      rw (h, lt-ltb 64 (p .to - p .from) k, z) (sym w ∙ ap (take 64) (s .part)))
+      let z : from + 64 - from ≡ 64 = omega arith in
+      let v : take 64 (take (to - from) (drop from (l .inbox))) ≡ take 64 (drop from (l .inbox)) =
+      take-take 64 (to - from) (drop from (l .inbox)) (omega arith) in
+      rw (h, lt-ltb 64 (to - from) k, z) (sym v ∙ ap (take 64) (w .part)))
 
-  module _ (t : Taken)
-      (x : t ≡ fed 0 (l .state) (l .content) (take (end - p .from) (drop (p .from) (l .inbox))) .result) where
+  module _ (t : Taken) (x : t ≡ fed 0 (l .state) (l .content) (take (end - from) (drop from (l .inbox))) .result) where
     -- no more bytes were taken than 64, or than wait
-    pub took-few : (t .count ≤ 64) × (t .count ≤ p .to - p .from)
+    pub took-few : (t .count ≤ 64) × (t .count ≤ to - from)
     took-few =
-        let s = its-span l p (long .inbox) e in
-        let bs = take (end - p .from) (drop (p .from) (l .inbox)) in
+        let bs = take (end - from) (drop from (l .inbox)) in
         let v = fed-view 0 (l .state) (l .content) bs (long .content) in
         let m = until-most (l .state .mode) (lineOf (l .state) (l .content)) bs in
         let n : length bs ≡ length (take 64 (waiting l)) = ap length turn-bytes in
         let k = length-take 64 (waiting l) in
-        rw x (omega (arith, v .count-is, s .count), omega (arith, v .count-is, s .count))
+        rw x (omega (arith, v .count-is, w .count), omega (arith, v .count-is, w .count))
 
     pub turn-open : (l .opened ≡ 0 → ⊥) → (content : List ℕ)
-        → content ≡ fed 0 (l .state) (l .content) (take (end - p .from) (drop (p .from) (l .inbox))) .content
-        → let r : Turned = record {
-          line = record {
-            opened = l .opened;
-            state = t .line;
-            first = p .from + t .count;
-            count = p .to - p .from - t .count;
-            content = content;
-            inbox = l .inbox;
-          };
-          count = t .count;
-          heard = t .heard;
-        } in
-        (r ≡ turning l) × Bounded r
+        → content ≡ fed 0 (l .state) (l .content) (take (end - from) (drop from (l .inbox))) .content
+        → Turns l
+        (record {
+          opened = l .opened;
+          state = t .line;
+          first = from + t .count;
+          count = to - from - t .count;
+          content = content;
+          inbox = l .inbox;
+        })
+        (t .count) (t .heard)
     unfolding turning pick
     turn-open o content g =
-        let s = its-span l p (long .inbox) e in
-        turn-bounded l long _
-        (rw (
-          ne-eqb (l .opened) 0 o,
-          ← turn-bytes,
-          g,
-          x,
-          s .count,
-          e,
-        ))
+        let e = ne-eqb (l .opened) 0 o in
+        let v = fed-view 0 (l .state) (l .content) (take (end - from) (drop from (l .inbox))) (long .content) in
+        record {
+          line-is = rw (e, ← turn-bytes, g, x, w .count, w .start);
+          count-is = rw (e, ← turn-bytes, x);
+          heard-is = rw (e, ← turn-bytes, x);
+          count-most = took-few .0;
+          inside = rw x (v .inside);
+        }

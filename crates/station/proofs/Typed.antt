@@ -1,25 +1,21 @@
--- What owning a station tells: the arrays of each of its lines have their lengths.
+-- What owning an array of rows tells: each row has its width.
+use mathlib.Core.Path.{_≡_}
 use mathlib.Core.List.{List, [], _∷_}
+use Prim.Native.Nat.{ℕ}
+use lib.ListN.{length}
+use mir.Syntax.{Width}
 use mir.Val.{Val}
+use denote.Array.{Array, each}
+use denote.Plain.{UInt}
 use denote.Shadow.{shadow}
-use denote.Array as array
 use borrow.Author.Needs.{needs}
-use Rattle.station.specs.Laws.Views.{Long, Longs, no-lines, one-line}
-use Rattle.station.specs.declared.StationLine.{StationLine}
-use Rattle.station.specs.declared.Station.{Station}
-use Rattle.station.proofs.StationLine as line
-use Rattle.station.proofs.Station as station
+use Rattle.station.specs.Memory.{Wide, no-row, one-row}
 
--- the lines, beside what memory holds of them
-abbrev Typed : List StationLine → List Val → Type 0
-Typed ls us =
-    shadow (array.each (line.the-field .row .Denot) (line.the-field .row .own)
-    (station.the-type .to (record { lines = ls }) .0) us)
+row-typed : (w : Width) (n : ℕ) (x : List ℕ) (u : Val) → shadow (Array (UInt w) n .own x (u ∷ [])) → length x ≡ n
+row-typed w n x u p = search needs
 
-long-typed : (l : StationLine) (u : Val) → Typed (l ∷ []) (u ∷ []) → Long l
-long-typed l u x = record { content = search needs; inbox = search needs }
-
-pub longs-typed : (ls : List StationLine) (us : List Val) → Typed ls us → Longs ls
-longs-typed [] us x = no-lines
-longs-typed (l ∷ ls) [] x = absurd x
-longs-typed (l ∷ ls) (u ∷ us) x = one-line (long-typed l u (x .0, tt)) (longs-typed ls us (x .1))
+pub wide-typed : (w : Width) (n : ℕ) (xs : List (List ℕ)) (us : List Val)
+    → shadow (each (List ℕ) (Array (UInt w) n .own) xs us) → Wide n xs
+wide-typed w n [] us p = no-row
+wide-typed w n (x ∷ xs) [] p = absurd p
+wide-typed w n (x ∷ xs) (u ∷ us) p = one-row (row-typed w n x u (p .0)) (wide-typed w n xs us (p .1))

@@ -50,7 +50,7 @@ use Rattle.station.specs.Due.{numbersOf, isAmong, numberDue, lentBy, noC
 use Rattle.station.specs.Laws.Numbers as numbers
 use Rattle.station.specs.Laws.Accounts as accounts
 use Rattle.station.specs.Laws.Rounds as rounds
-use Rattle.station.specs.declared.Station.{Station}
+use Rattle.station.specs.Records.{Station}
 
 -- ---- Demand 1: a definite answer to every call, and a refused call changes nothing
 

@@ -13,7 +13,7 @@ use Rattle.station.specs.Stations.{allClosed, called, opening, deliverin
 use Rattle.station.specs.Sheets.{Entry, Told, smallestSheet}
 use Rattle.station.specs.Rounds.{round}
 use Rattle.station.specs.Reading.{readTurn}
-use Rattle.station.specs.declared.Station.{Station}
+use Rattle.station.specs.Records.{Station}
 
 -- ---- Calls
 

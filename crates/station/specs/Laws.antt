@@ -3,6 +3,7 @@ pub mod Sheets
 pub mod Balance
 pub mod Bound
 pub mod Views
+pub mod Memory
 pub mod Calls
 pub mod Accounts
 pub mod Numbers

@@ -1,5 +1,8 @@
--- The calls and the sheet on the code's own records, in document 01's words; what callers see of a list of calls; the
--- demands.
+-- The calls and the sheet in document 01's words; how a station lies in the caller's memory; what callers see of a list
+-- of calls; the demands.
+pub mod Records
+pub mod Memory
+pub mod Fixed
 pub mod Numbers
 pub mod Lines
 pub mod Stations

@@ -9,10 +9,9 @@ use Rattle.characters.specs.Answers.{Answer, given, need, pick}
 use Rattle.line.specs.Steps.{FedTo, fed}
 use Rattle.line.specs.declared.LineState.{LineState}
 use Rattle.line.specs.declared.Heard.the-variants.{Nothing}
-use Rattle.station.specs.declared.StationLine.{StationLine}
+use Rattle.station.specs.Records.{StationLine, Turned}
 use Rattle.station.specs.declared.Refusal.{Refusal}
 use Rattle.station.specs.declared.Refusal.the-variants.{NoRoom, LineClosed}
-use Rattle.station.specs.declared.turn.Turned.{Turned}
 
 -- "all closed at first": 0 is closed, any other number is open
 abbrev pub isOpen : StationLine → Bool

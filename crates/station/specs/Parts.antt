@@ -1,4 +1,4 @@
--- What the parts of the code hand to each other, on the code's own records.
+-- What the parts of the code hand to each other, by the station's own definitions.
 use mathlib.Core.Path.{_≡_}
 use mathlib.Core.List.{List, _∷_, _++_, map}
 use Prim.Native.Nat.{ℕ, _+_, _-_, _≤_}
@@ -9,29 +9,50 @@ use Rattle.characters.specs.Answers.{Answer, refused, given, pick}
 use Rattle.groups.specs.declared.Stretch.{Stretch}
 use Rattle.line.specs.Steps.{heardAnswer}
 use Rattle.line.specs.Views.{FieldsInside}
+use Rattle.line.specs.declared.LineState.{LineState}
 use Rattle.line.specs.declared.Fields.{Fields}
 use Rattle.line.specs.declared.Heard.{Heard}
 use Rattle.line.specs.declared.Heard.the-variants.{Nothing, Accepted, Told}
-use Rattle.station.specs.Lines.{waiting, oldest, over, turning}
+use Rattle.station.specs.Lines.{waiting, oldest, over, openedAs, filling, turning}
 use Rattle.station.specs.Sheets.{Told as TurnTold, shownIf, entryOf, twoBytes, offsets, joined, entries}
 use Rattle.station.specs.Rounds.{tells}
-use Rattle.station.specs.declared.StationLine.{StationLine}
+use Rattle.station.specs.Memory.{lineFrom}
+use Rattle.station.specs.Laws.Views.{lineLeft}
+use Rattle.station.specs.Records.{StationLine, Turned}
 use Rattle.station.specs.declared.Refusal.{Refusal}
+use Rattle.station.specs.declared.Reply.{Reply}
 use Rattle.station.specs.declared.Reply.the-variants.{Done, Refused}
-use Rattle.station.specs.declared.inbox.Span.{Span}
-use Rattle.station.specs.declared.inbox.Filled.{Filled}
-use Rattle.station.specs.declared.turn.Turned.{Turned}
-use Rattle.station.specs.declared.serve.Served.{Served}
 
 -- ---- Inboxes
 
--- where the waiting bytes lie
-abbrev pub spanOf : StationLine → Span
-spanOf l = record { from = oldest l; to = oldest l + length (waiting l) }
+-- the waiting bytes of a line lie from one place up to another
+pub record Waits (l : StationLine) (from to : ℕ) : Type 0 where
+  pub start : from ≡ oldest l
+  pub order : from ≤ to
+  pub fits : to ≤ 256
+  pub part : take (to - from) (drop from (l .inbox)) ≡ waiting l
+  pub count : length (waiting l) ≡ to - from
 
-abbrev pub filled : StationLine → Answer Refusal StationLine → Filled
-filled l (given next) = record { line = next; reply = Done }
-filled l (refused refusal) = record { line = l; reply = Refused refusal }
+-- so they do in every line with these two numbers
+abbrev pub WaitsBy : ℕ → ℕ → ℕ → ℕ → Type 0
+WaitsBy first count from to =
+    (l : StationLine) → l .first ≡ first → l .count ≡ count → length (l .inbox) ≡ 256 → Waits l from to
+
+-- the two rows of an opened line, whatever content and inbox it has
+abbrev pub OpensRows : List ℕ → List ℕ → LineState → List ℕ → List ℕ → Type 0
+OpensRows marks places state marks' places' =
+    (content inbox : List ℕ)
+    → lineFrom marks' places' content inbox ≡ openedAs (lineFrom marks places content inbox) state
+
+-- what is told of a call for one line
+abbrev pub replyTo : Answer Refusal StationLine → Reply
+replyTo (given l) = Done
+replyTo (refused refusal) = Refused refusal
+
+-- a delivery to a line: the reply, and the line afterwards
+pub record Fills (l : StationLine) (bytes : List ℕ) (reply : Reply) (after : StationLine) : Type 0 where
+  pub reply-is : reply ≡ replyTo (filling l bytes)
+  pub line-is : after ≡ lineLeft l (filling l bytes)
 
 -- ---- Turns
 
@@ -39,10 +60,13 @@ filled l (refused refusal) = record { line = l; reply = Refused refusal }
 unfoldable pub endOf : ℕ → ℕ → ℕ
 endOf from to = pick (ltb 64 (to - from)) (from + 64) to
 
--- a turn took no more than 64 bytes, and the fields of its group lie inside its line's content
-pub record Bounded (t : Turned) : Type 0 where
-  pub count-most : t .count ≤ 64
-  pub inside : FieldsInside (t .heard)
+-- a turn of a line: the line afterwards, the count, and what was heard
+pub record Turns (l after : StationLine) (count : ℕ) (heard : Heard) : Type 0 where
+  pub line-is : after ≡ turning l .line
+  pub count-is : count ≡ turning l .count
+  pub heard-is : heard ≡ turning l .heard
+  pub count-most : count ≤ 64
+  pub inside : FieldsInside heard
 
 -- ---- Entries
 
@@ -87,8 +111,9 @@ abbrev pub toldBy : List StationLine → List TurnTold
 toldBy ls = map tells (map turning ls)
 
 -- the lines after their turns, the counts, the offsets, and the sheet with the entries from byte 24 on
-pub record Serves (ls : List StationLine) (sheet : List ℕ) (r : Served) (after : List ℕ) : Type 0 where
-  pub lines : r .station .lines ≡ map (λ (t : Turned). t .line) (map turning ls)
-  pub counts : r .counts ≡ map (λ (t : Turned). t .count) (map turning ls)
-  pub offsets : r .offsets ≡ joined twoBytes (offsets 24 (toldBy ls))
+pub record ServesLines (ls : List StationLine) (sheet : List ℕ) (ls' : List StationLine) (counts offsets' after : List ℕ)
+    : Type 0 where
+  pub lines-are : ls' ≡ map (λ (t : Turned). t .line) (map turning ls)
+  pub counts-are : counts ≡ map (λ (t : Turned). t .count) (map turning ls)
+  pub offsets-are : offsets' ≡ joined twoBytes (offsets 24 (toldBy ls))
   pub sheet-is : after ≡ over (take 24 sheet ++ entries (toldBy ls)) sheet

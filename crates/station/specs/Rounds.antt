@@ -8,13 +8,10 @@ use Rattle.characters.specs.Answers.{Answer, refused, given, need}
 use Rattle.line.specs.Steps.{heardAnswer}
 use Rattle.station.specs.Lines.{over, turning}
 use Rattle.station.specs.Sheets.{Told, shownIf, smallestSheet, sheetOf}
-use Rattle.station.specs.declared.StationLine.{StationLine}
-use Rattle.station.specs.declared.Station.{Station}
+use Rattle.station.specs.Records.{StationLine, Station, Rounded, Turned}
 use Rattle.station.specs.declared.Refusal.{Refusal}
 use Rattle.station.specs.declared.Refusal.the-variants.{SheetShort}
 use Rattle.station.specs.declared.Reply.the-variants.{Done, Refused}
-use Rattle.station.specs.declared.Rounded.{Rounded}
-use Rattle.station.specs.declared.turn.Turned.{Turned}
 
 -- "A round goes through lines 0 to 7." "18: sheet under 1,080 bytes"
 unfoldable pub turns : Station → List ℕ → Answer Refusal (List Turned)

@@ -9,12 +9,10 @@ use Rattle.line.specs.State.{openingOf}
 use Rattle.line.specs.declared.Opening.{Opening}
 use Rattle.line.specs.declared.Opening.the-variants as line
 use Rattle.station.specs.Lines.{openedAs, filling}
-use Rattle.station.specs.declared.StationLine.{StationLine}
-use Rattle.station.specs.declared.Station.{Station}
+use Rattle.station.specs.Records.{StationLine, Station, Called}
 use Rattle.station.specs.declared.Refusal.{Refusal}
 use Rattle.station.specs.declared.Refusal.the-variants.{LineUnknown, ModeUnknown}
 use Rattle.station.specs.declared.Reply.the-variants.{Done, Refused}
-use Rattle.station.specs.declared.Called.{Called}
 
 -- a line of zeros, with the bytes that it keeps
 abbrev pub zeroLine : List ℕ → List ℕ → StationLine

@@ -1,15 +1,16 @@
-// A line's inbox: openings and deliveries.
+// A line's inbox: deliveries.
 use crate::Refusal;
 use crate::Reply;
-use crate::StationLine;
 use crate::copy;
+use crate::known;
 use line::LineState;
 ghost use mathlib.Core.Path.{_≡_};
 ghost use mathlib.Core.List.{_++_};
 ghost use Prim.Native.Nat.{_+_, _-_, _≤_};
 ghost use lib.ListN.{length, take, drop};
-ghost use Rattle.station.specs.Lines.{openedAs, over, filling};
-ghost use Rattle.station.specs.Parts.{spanOf, filled};
+ghost use Rattle.station.specs.Lines.{over};
+ghost use Rattle.station.specs.Memory.{rowsBefore, rowsAfter};
+ghost use Rattle.station.specs.Parts.{WaitsBy, OpensRows, Fills};
 
 // Where the waiting bytes lie: from place `from` up to `to`.
 pub struct Span {
@@ -17,82 +18,81 @@ pub struct Span {
     pub to: usize,
 }
 
-// A line after a delivery to it, and what is told of the delivery.
-pub struct Filled {
-    pub line: StationLine,
-    pub reply: Reply,
-}
-
 // Where the waiting bytes lie. Numbers that no call makes are read as some that lie inside the inbox.
-pub(crate) fn span_of(line: StationLine) -> Span
-    ensures { λ r. ⌜ r ≡ spanOf line ⌝ }
+pub(crate) fn span_of(first: u16, count: u16) -> Span
+    ensures { λ r. ⌜ WaitsBy first count (r .from) (r .to) ⌝ }
 {
-    let from = line.first as usize;
-    let count = line.count as usize;
+    let from = first as usize;
+    let waits = count as usize;
     if 256 < from {
         return Span { from: 256, to: 256 };
     }
-    if 256 - from < count {
+    if 256 - from < waits {
         return Span { from, to: 256 };
     }
     Span {
         from,
-        to: from + count,
+        to: from + waits,
     }
 }
 
-// A line that is opened: nothing waits.
-pub(crate) fn opened(line: StationLine, state: LineState) -> StationLine
-    ensures { λ r. ⌜ r ≡ openedAs line state ⌝ }
+// The numbers of a line that is opened: nothing waits.
+pub(crate) fn opened(marks: &mut [u8; 6], places: &mut [u16; 3], state: LineState)
+    ensures { λ _. ⌜ OpensRows (now (marks .entry)) (now (places .entry)) state (now (marks .exit)) (now (places .exit)) ⌝ }
 {
-    let mut next = line;
-    next.opened = 1;
-    next.state = state;
-    next.first = 0;
-    next.count = 0;
-    next
+    *marks = [
+        1,
+        state.mode,
+        state.phase,
+        state.flaw,
+        state.damaged,
+        state.overlong,
+    ];
+    *places = [state.length, 0, 0];
 }
 
-// The inbox with what waits at its front, and the bytes behind it.
-fn laid(inbox: [u8; 256], from: usize, to: usize, bytes: &[u8]) -> [u8; 256]
+// Moves what waits to the front of the inbox, and lays the bytes behind it.
+fn lay(inbox: &mut [u8; 256], from: usize, to: usize, bytes: &[u8])
     requires { ⌜ (from ≤ to) × (to ≤ 256) × (to - from + length (now bytes) ≤ 256) ⌝ }
-    ensures { λ r. ⌜ r ≡ over (take (to - from) (drop from inbox) ++ now (bytes .entry)) inbox ⌝ }
+    ensures { λ _. ⌜ now (inbox .exit) ≡ over (take (to - from) (drop from (now (inbox .entry))) ++ now (bytes .entry)) (now (inbox .entry)) ⌝ }
 {
-    let mut next = inbox;
+    let was = *inbox;
     let count = to - from;
-    copy::copy_in(&mut next, 0, &inbox[from..to]);
-    copy::copy_in(&mut next, count, bytes);
-    next
+    copy::copy_in(inbox, 0, &was[from..to]);
+    copy::copy_in(inbox, count, bytes);
+}
+
+// A refused delivery: what a delivery changes comes along so that the contract can say that it stays as it was.
+fn stop(refusal: Refusal, places: &mut [u16; 3], inbox: &mut [u8; 256]) -> Reply
+    ensures { λ r. ⌜ (r ≡ Reply.Refused refusal) × (now (places .exit) ≡ now (places .entry)) × (now (inbox .exit) ≡ now (inbox .entry)) ⌝ }
+{
+    Reply::Refused(refusal)
 }
 
 // Adds bytes to the inbox of a line, all of them or none.
-pub(crate) fn fill(line: StationLine, bytes: &[u8]) -> Filled
-    ensures { λ r. ⌜ r ≡ filled line (filling line (now (bytes .entry))) ⌝ }
+pub(crate) fn fill(
+    marks: &[u8; 6],
+    places: &mut [u16; 3],
+    content: &[u8; 128],
+    inbox: &mut [u8; 256],
+    bytes: &[u8],
+) -> Reply
+    ensures { λ r. ⌜ Fills (rowsBefore marks places content inbox) (now (bytes .entry)) r (rowsAfter marks places content inbox) ⌝ }
 {
-    if line.opened == 0 {
-        return Filled {
-            line,
-            reply: Reply::Refused(Refusal::LineClosed),
-        };
+    if marks[0] == 0 {
+        return stop(Refusal::LineClosed, places, inbox);
     }
-    let span = span_of(line);
+    known::inbox_long(*inbox);
+    let length = places[0];
+    let span = span_of(places[1], places[2]);
     let from = span.from;
     let to = span.to;
     let count = to - from;
     if 256 - count < bytes.len() {
-        return Filled {
-            line,
-            reply: Reply::Refused(Refusal::NoRoom),
-        };
+        return stop(Refusal::NoRoom, places, inbox);
     }
-    let was = line.inbox;
-    let inbox = laid(was, from, to, bytes);
-    let mut next = line;
-    next.first = 0;
-    next.count = (count + bytes.len()) as u16;
-    next.inbox = inbox;
-    Filled {
-        line: next,
-        reply: Reply::Done,
-    }
+    lay(inbox, from, to, bytes);
+    let waits = (count + bytes.len()) as u16;
+    *places = [length, 0, waits];
+    Reply::Done
 }

@@ -1,37 +1,38 @@
 // The station: eight lines, 0 to 7, each with its inbox, and the rounds that serve them.
+//
+// It lies in four arrays that the caller lends, with a row for each line:
+//
+//  marks     opened, mode, phase, flaw, damaged, overlong
+//  places    the content's length, the first waiting byte, the count of waiting bytes
+//  contents  the characters of the group
+//  inboxes   the waiting bytes
+//
+// Zeros are the station with all lines closed. A contract speaks of the memory before and after: `before` and `after`
+// gather the four arrays, as they are at entry and at exit.
 mod copy;
 mod inbox;
+mod known;
 mod serve;
 mod sheet;
 mod turn;
 
-use line::LineState;
 use line::Opening;
 ghost use mathlib.Core.Path.{_≡_};
 ghost use Rattle.station.specs.Numbers.{numberOf, numberOfRefusal};
-ghost use Rattle.station.specs.Stations.{allClosed, called, opening, delivering};
-ghost use Rattle.station.specs.Rounds.{Round, round};
+ghost use Rattle.station.specs.Memory.{before, after};
+ghost use Rattle.station.specs.Contracts.{Opens, Delivers, Serves};
+
+// A row for each line.
+pub type Marks = [[u8; 6]; 8];
+
+pub type Places = [[u16; 3]; 8];
+
+pub type Contents = [[u8; 128]; 8];
+
+pub type Inboxes = [[u8; 256]; 8];
 
 // The bytes that a lent sheet must have.
 pub const SMALLEST_SHEET: usize = 1080;
-
-// A line of the station. Zeros are a closed line; every number but 0 in `opened` is an open one. `count` bytes wait in
-// the inbox, from place `first` on.
-#[repr(C)]
-pub struct StationLine {
-    pub opened: u8,
-    pub state: LineState,
-    pub first: u16,
-    pub count: u16,
-    pub content: [u8; 128],
-    pub inbox: [u8; 256],
-}
-
-// Zeros are the station with all lines closed.
-#[repr(C)]
-pub struct Station {
-    pub lines: [StationLine; 8],
-}
 
 // Why a call is refused.
 pub enum Refusal {
@@ -47,112 +48,88 @@ pub enum Reply {
     Refused(Refusal),
 }
 
-// The station after an opening or a delivery, and what is told of the call.
-pub struct Called {
-    pub station: Station,
-    pub reply: Reply,
-}
-
-// The station after a round, how many bytes each line's turn took, and what is told of the round itself.
-pub struct Rounded {
-    pub station: Station,
+// How many bytes each line's turn took, and what is told of the round itself.
+pub struct RoundTold {
     pub counts: [u8; 8],
     pub reply: Reply,
 }
 
-// The station with all lines closed.
-pub fn closed() -> Station
-    ensures { λ r. ⌜ r ≡ allClosed ⌝ }
-{
-    let line = StationLine {
-        opened: 0,
-        state: LineState {
-            mode: 0,
-            phase: 0,
-            flaw: 0,
-            damaged: 0,
-            overlong: 0,
-            length: 0,
-        },
-        first: 0,
-        count: 0,
-        content: [0u8; 128],
-        inbox: [0u8; 256],
-    };
-    Station { lines: [line; 8] }
-}
-
 // Opens a line in a mode: its inbox is empty then, and the line outside of every frame.
-pub fn open(station: Station, line: u8, mode: u8) -> Called
-    ensures { λ r. ⌜ r ≡ called station (opening station line mode) ⌝ }
+pub fn open(
+    marks: &mut Marks,
+    places: &mut Places,
+    contents: &Contents,
+    inboxes: &Inboxes,
+    line: u8,
+    mode: u8,
+) -> Reply
+    ensures { λ r. ⌜ Opens (before marks places contents inboxes) line mode r (after marks places contents inboxes) ⌝ }
 {
+    known::sized(*marks, *places, *contents, *inboxes);
     if line < 8 {
         let opening = line::open(mode);
         match opening {
             Opening::Opened(state) => {
                 let at = line as usize;
-                let was = station.lines[at];
-                let after = inbox::opened(was, state);
-                let mut next = station;
-                next.lines[at] = after;
-                Called {
-                    station: next,
-                    reply: Reply::Done,
-                }
+                inbox::opened(&mut marks[at], &mut places[at], state);
+                Reply::Done
             }
-            Opening::ModeUnknown => Called {
-                station,
-                reply: Reply::Refused(Refusal::ModeUnknown),
-            },
+            Opening::ModeUnknown => Reply::Refused(Refusal::ModeUnknown),
         }
     } else {
-        Called {
-            station,
-            reply: Reply::Refused(Refusal::LineUnknown),
-        }
+        Reply::Refused(Refusal::LineUnknown)
     }
 }
 
-// Adds bytes to the inbox of an open line, all of them or none. The station is copied once, at the start: that is quicker
-// than a copy on each way out.
-pub fn deliver(station: Station, line: u8, bytes: &[u8]) -> Called
-    ensures { λ r. ⌜ r ≡ called station (delivering station line (now (bytes .entry))) ⌝ }
+// Adds bytes to the inbox of an open line, all of them or none.
+pub fn deliver(
+    marks: &Marks,
+    places: &mut Places,
+    contents: &Contents,
+    inboxes: &mut Inboxes,
+    line: u8,
+    bytes: &[u8],
+) -> Reply
+    ensures { λ r. ⌜ Delivers (before marks places contents inboxes) line (now (bytes .entry)) r
+        (after marks places contents inboxes) ⌝ }
 {
-    let mut next = station;
-    let mut reply = Reply::Refused(Refusal::LineUnknown);
+    known::sized(*marks, *places, *contents, *inboxes);
     if line < 8 {
         let at = line as usize;
-        let was = next.lines[at];
-        let filled = inbox::fill(was, bytes);
-        let after = filled.line;
-        reply = filled.reply;
-        next.lines[at] = after;
+        return inbox::fill(
+            &marks[at],
+            &mut places[at],
+            &contents[at],
+            &mut inboxes[at],
+            bytes,
+        );
     }
-    Called {
-        station: next,
-        reply,
-    }
+    Reply::Refused(Refusal::LineUnknown)
 }
 
-// Gives each line its turn, and tells of the turns on the lent sheet.
-pub fn round(station: Station, sheet: &mut [u8]) -> Rounded
-    ensures { λ r. ⌜ Round (round station (now (sheet .entry))) r (now (sheet .exit)) ⌝ }
+// Gives each open line its turn, and tells of the turns on the lent sheet.
+pub fn round(
+    marks: &mut Marks,
+    places: &mut Places,
+    contents: &mut Contents,
+    inboxes: &Inboxes,
+    sheet: &mut [u8],
+) -> RoundTold
+    ensures { λ r. ⌜ Serves (before marks places contents inboxes) (now (sheet .entry)) r
+        (after marks places contents inboxes) (now (sheet .exit)) ⌝ }
 {
     if sheet.len() < SMALLEST_SHEET {
-        return Rounded {
-            station,
+        return RoundTold {
             counts: [0u8; 8],
             reply: Reply::Refused(Refusal::SheetShort),
         };
     }
-    let served = serve::serve(station, sheet);
-    let next = served.station;
+    let served = serve::serve(marks, places, contents, inboxes, sheet);
     let counts = served.counts;
     let offsets = served.offsets;
     copy::copy_in(sheet, 0, &counts);
     copy::copy_in(sheet, 8, &offsets);
-    Rounded {
-        station: next,
+    RoundTold {
         counts,
         reply: Reply::Done,
     }

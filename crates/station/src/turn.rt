@@ -1,15 +1,15 @@
 // One line's turn in a round.
-use crate::StationLine;
 use crate::inbox;
+use crate::known;
 use line::Heard;
+use line::LineState;
 ghost use mathlib.Core.Path.{_≡_};
-ghost use Rattle.station.specs.Lines.{turning};
 ghost use Prim.Native.Nat.{_≤_};
-ghost use Rattle.station.specs.Parts.{Bounded, endOf};
+ghost use Rattle.station.specs.Memory.{rowsBefore, rowsAfter};
+ghost use Rattle.station.specs.Parts.{endOf, Turns};
 
-// What a turn did: the line afterwards, how many bytes it took, and what was heard at the last of them.
-pub struct Turned {
-    pub line: StationLine,
+// What a turn tells: how many bytes it took, and what was heard at the last of them.
+pub struct Took {
     pub count: u8,
     pub heard: Heard,
 }
@@ -26,34 +26,52 @@ fn end_of(from: usize, to: usize) -> usize
 }
 
 // Takes the oldest bytes of an open line, at most 64, up to one that gives an answer.
-pub(crate) fn turn(line: StationLine) -> Turned
-    ensures { λ r. ⌜ (r ≡ turning line) × Bounded r ⌝ }
+pub(crate) fn turn(
+    marks: &mut [u8; 6],
+    places: &mut [u16; 3],
+    content: &mut [u8; 128],
+    inbox: &[u8; 256],
+) -> Took
+    ensures { λ r. ⌜ Turns (rowsBefore marks places content inbox) (rowsAfter marks places content inbox) (r .count) (r .heard) ⌝ }
 {
-    if line.opened == 0 {
-        return Turned {
-            line,
+    let opened = marks[0];
+    if opened == 0 {
+        return Took {
             count: 0,
             heard: Heard::Nothing,
         };
     }
-    let span = inbox::span_of(line);
+    known::content_long(*content);
+    known::inbox_long(*inbox);
+    let span = inbox::span_of(places[1], places[2]);
     let from = span.from;
     let to = span.to;
     let end = end_of(from, to);
-    let inbox = line.inbox;
-    let state = line.state;
-    let mut content = line.content;
-    let taken = line::feed(state, &mut content, &inbox[from..end]);
+    let state = LineState {
+        mode: marks[1],
+        phase: marks[2],
+        flaw: marks[3],
+        damaged: marks[4],
+        overlong: marks[5],
+        length: places[0],
+    };
+    let all = &inbox[..];
+    let taken = line::feed(state, content, &all[from..end]);
+    let then = taken.line;
     let count = taken.count;
+    let first = (from + count) as u16;
+    let waits = (to - from - count) as u16;
+    *marks = [
+        opened,
+        then.mode,
+        then.phase,
+        then.flaw,
+        then.damaged,
+        then.overlong,
+    ];
+    *places = [then.length, first, waits];
     let heard = taken.heard;
-    let state_then = taken.line;
-    let mut next = line;
-    next.state = state_then;
-    next.first = (from + count) as u16;
-    next.count = (to - from - count) as u16;
-    next.content = content;
-    Turned {
-        line: next,
+    Took {
         count: count as u8,
         heard,
     }

@@ -1,7 +1,7 @@
 //! "One group": judging and writing one that is given alone.
 
 use crate::wire::{content, group, ETX, STX};
-use tic::{judge, judge_raw, write, write_raw, Answer, Group, Mode, Notice, Refusal, Station};
+use espandim::{judge, judge_raw, write, write_raw, Answer, Group, Mode, Notice, Refusal, Station};
 
 use Mode::{Historic, Standard};
 

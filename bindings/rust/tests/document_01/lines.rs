@@ -1,7 +1,7 @@
 //! "One line": each of the numbers 1 to 14, as a line tells them.
 
 use crate::wire::{content, frame, group, listing, CR, EOT, ETX, LF, STX};
-use tic::{Mode, Notice};
+use espandim::{Mode, Notice};
 
 const P1: &[u8] = b"URMS1\t230\t?";
 

@@ -1,7 +1,7 @@
 //! "The station": openings, deliveries and rounds.
 
 use crate::wire::{frame, ETX, IDLE, LF, STX};
-use tic::{Answer, Mode, Notice, Refusal, Station};
+use espandim::{Answer, Mode, Notice, Refusal, Station};
 
 /// P1 of document 01.
 const P1: &[u8] = b"URMS1\t230\t?";
@@ -32,15 +32,15 @@ fn in_use() -> Station {
 #[test]
 fn a_new_station_is_zeros_and_all_lines_are_closed() {
     let mut station = Station::new();
-    assert_eq!(*station.bytes(), [0; 3184]);
-    assert_eq!(*Station::default().bytes(), [0; 3184]);
+    assert_eq!(*station.bytes(), [0; 3168]);
+    assert_eq!(*Station::default().bytes(), [0; 3168]);
     for line in 0..8 {
         refused(&mut station, 17, |station| station.deliver(line, &[STX]));
     }
     let round = station.round();
     assert_eq!(round.counts(), [0; 8]);
     assert_eq!(round.answers().count(), 0);
-    assert_eq!(*station.bytes(), [0; 3184]);
+    assert_eq!(*station.bytes(), [0; 3168]);
 }
 
 #[test]
@@ -281,7 +281,8 @@ fn eight_long_entries_stand_on_one_sheet() {
     let data: Vec<Vec<u8>> = (0..8).map(|line| vec![b'a' + line; 98]).collect();
     for line in 0..8 {
         station.open(line, Mode::Standard).unwrap();
-        let group = tic::write(Mode::Standard, b"PJOURF+1", b"", &data[line as usize]).unwrap();
+        let group =
+            espandim::write(Mode::Standard, b"PJOURF+1", b"", &data[line as usize]).unwrap();
         station.deliver(line, &[STX]).unwrap();
         station.deliver(line, group.as_bytes()).unwrap();
     }

@@ -1,6 +1,6 @@
 //! What the tests hand in: wire bytes and groups, made by document 01's sentences and not by the archive.
 
-use tic::{Mode, Station};
+use espandim::{Mode, Station};
 
 /// "STX is 0x02 (wire 0x82)".
 pub const STX: u8 = 0x82;

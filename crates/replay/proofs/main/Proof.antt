@@ -4,13 +4,10 @@ use Rattle.replay.proofs.main.Statement.{statement}
 use Rattle.replay.proofs.main.Tie as tie
 
 abbrev Inv-loop : tie.InvT-loop
-Inv-loop piece₀ page₀ replayed₀ turns₀ piece page replayed turns = Unit {0}
+Inv-loop piece₀ page₀ marks₀ places₀ contents₀ inboxes₀ desk₀ turns₀ piece page marks places contents inboxes desk turns = Unit {0}
 
 abbrev μ-loop : tie.MeasureT-loop
-μ-loop piece₀ page₀ replayed₀ turns₀ piece page replayed turns = turns
-
-closed-requires : tie.Need-closed-requires Inv-loop μ-loop
-closed-requires c κs = search needs
+μ-loop piece₀ page₀ marks₀ places₀ contents₀ inboxes₀ desk₀ turns₀ piece page marks places contents inboxes desk turns = turns
 
 start-requires : tie.Need-start-requires Inv-loop μ-loop
 start-requires c κs = search needs
@@ -45,7 +42,6 @@ main-spec =
     (tie.spec
     Inv-loop
     μ-loop
-    closed-requires
     start-requires
     start-requires-2
     loop-holds

@@ -45,8 +45,7 @@ use Rattle.station.specs.Laws.Balance.{Balance, balance}
 use Rattle.station.specs.Laws.Bound as bound
 use Rattle.station.specs.Laws.Views.{standsFor}
 use Rattle.station.specs.Laws.Calls.{Made, made-closed, closed-at-first, alone, made-next, projected, made-run}
-use Rattle.station.specs.declared.StationLine.{StationLine}
-use Rattle.station.specs.declared.Station.{Station}
+use Rattle.station.specs.Records.{StationLine, Station}
 
 -- ---- A line and its account
 

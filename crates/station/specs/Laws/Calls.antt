@@ -68,12 +68,9 @@ use Rattle.station.specs.Laws.Views.{
   openedBy,
   open-view,
 }
-use Rattle.station.specs.declared.StationLine.{StationLine}
-use Rattle.station.specs.declared.Station.{Station}
+use Rattle.station.specs.Records.{StationLine, Station, Called, Turned}
 use Rattle.station.specs.declared.Refusal.{Refusal}
 use Rattle.station.specs.declared.Refusal.the-variants.{LineUnknown, SheetShort}
-use Rattle.station.specs.declared.Called.{Called}
-use Rattle.station.specs.declared.turn.Turned.{Turned}
 
 -- ---- The lengths of a station
 

@@ -45,12 +45,10 @@ use Rattle.station.specs.Laws.Balance.{Balance}
 use Rattle.station.specs.Laws.Views.{standsFor}
 use Rattle.station.specs.Laws.Calls.{Made, made-closed, alone, made-run}
 use Rattle.station.specs.Laws.Accounts.{balanced}
-use Rattle.station.specs.declared.StationLine.{StationLine}
-use Rattle.station.specs.declared.Station.{Station}
+use Rattle.station.specs.Records.{StationLine, Station, Turned}
 use Rattle.station.specs.declared.Refusal.{Refusal}
 use Rattle.station.specs.declared.Refusal.the-variants.{NoRoom, LineUnknown, LineClosed, SheetShort}
 use Rattle.station.specs.declared.Reply.{Reply}
-use Rattle.station.specs.declared.turn.Turned.{Turned}
 
 -- ---- Every number is one of the call's kind
 

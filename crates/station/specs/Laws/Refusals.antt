@@ -13,7 +13,7 @@ use Rattle.station.specs.Stations.{called, opening, delivering}
 use Rattle.station.specs.Sheets.{smallestSheet}
 use Rattle.station.specs.Rounds.{turns, round}
 use Rattle.station.specs.History.{opens, delivers, serves, next, gets}
-use Rattle.station.specs.declared.Station.{Station}
+use Rattle.station.specs.Records.{Station}
 use Rattle.station.specs.declared.Refusal.the-variants.{LineUnknown, SheetShort, ModeUnknown}
 
 -- ---- Refusals
@@ -59,5 +59,6 @@ pub serves-round : (s : Station) (sheet : List ℕ)
     → (next s (serves sheet) ≡ round s sheet .result .station)
     × (gets s (serves sheet) .number ≡ numberOf (round s sheet .result .reply))
     × (gets s (serves sheet) .lent ≡ round s sheet .sheet)
+    × (gets s (serves sheet) .counts ≡ round s sheet .result .counts)
 unfolding next gets
-serves-round s sheet = (refl, refl, refl)
+serves-round s sheet = (refl, refl, refl, refl)

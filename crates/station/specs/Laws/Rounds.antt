@@ -15,8 +15,7 @@ use Rattle.station.specs.History.{Call, serves, next, gets, run}
 use Rattle.station.specs.Laws.Sheets.{sheet-fits, counts-first, reads-back}
 use Rattle.station.specs.Laws.Views.{turn-view}
 use Rattle.station.specs.Laws.Calls.{Made, long-at, turn-at, turns-short, made-closed, made-run}
-use Rattle.station.specs.declared.Station.{Station}
-use Rattle.station.specs.declared.turn.Turned.{Turned}
+use Rattle.station.specs.Records.{Station, Turned}
 
 -- an accepted round is that of all turns
 round-accepted : (s : Station) (sheet : List ℕ) → 1080 ≤ length sheet

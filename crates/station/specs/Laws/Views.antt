@@ -28,10 +28,9 @@ use Rattle.station.specs.Rounds.{tells}
 use Rattle.station.specs.History.{Event, openingIn, deliveryOf, turn}
 use Rattle.station.specs.OneLine.{Line, closed, opened, quota, lineAfter, firstShown, turnTold, deliveryNumber}
 use Rattle.station.specs.Laws.Sheets.{isShort}
-use Rattle.station.specs.declared.StationLine.{StationLine}
+use Rattle.station.specs.Records.{StationLine, Turned}
 use Rattle.station.specs.declared.Refusal.{Refusal}
 use Rattle.station.specs.declared.Refusal.the-variants.{NoRoom, LineClosed, ModeUnknown}
-use Rattle.station.specs.declared.turn.Turned.{Turned}
 
 -- the line that a record of the code stands for
 unfoldable pub standsFor : StationLine → Line

@@ -42,8 +42,8 @@ put-fields-requires c κs =
       one-short,
       at-put-number .put-number .ensures .place-is,
       start .pre .1,
-      fields-short (start .args .fields) (start .args .t3) _ _ _ (long start) (start .pre .0) (at-part .part .ensures)
-          (at-part2 .part2 .ensures) (c .part3 .ensures),
+      fields-short (start .args .fields) (start .args .t3) _ _ _ (long start) (start .pre .0) (at-part .part .ensures .bytes)
+          (at-part2 .part2 .ensures .bytes) (c .part3 .ensures .bytes),
     )
 
 put-requires : tie.Need-put-requires
@@ -61,8 +61,8 @@ put-requires c κs =
       at-put-fields .put-fields .ensures .place-is,
       start .pre .1,
       shown-short (at-part .part .result .now) (at-part2 .part2 .result .now) (at-part3 .part3 .result .now),
-      fields-short (start .args .fields) (start .args .t3) _ _ _ (long start) (start .pre .0) (at-part .part .ensures)
-          (at-part2 .part2 .ensures) (at-part3 .part3 .ensures),
+      fields-short (start .args .fields) (start .args .t3) _ _ _ (long start) (start .pre .0) (at-part .part .ensures .bytes)
+          (at-part2 .part2 .ensures .bytes) (at-part3 .part3 .ensures .bytes),
     )
 
 same-length : tie.Need-same-length
@@ -77,8 +77,8 @@ returns c =
     let at-part = at-part2 .before .before in
     let at-put-number = at-part .before .before .before .before .before in
     let start = at-put-number .before .before .before .before .before .before in
-    group-laid (start .args .fields) (start .args .t3) _ _ _ (long start) (start .pre .0) (at-part .part .ensures)
-    (at-part2 .part2 .ensures) (at-part3 .part3 .ensures) (at-put-number .put-number .ensures)
+    group-laid (start .args .fields) (start .args .t3) _ _ _ (long start) (start .pre .0) (at-part .part .ensures .bytes)
+    (at-part2 .part2 .ensures .bytes) (at-part3 .part3 .ensures .bytes) (at-put-number .put-number .ensures)
     (at-put-fields .put-fields .ensures) (at-put .put .ensures)
 
 pub put-group-spec : {M : Type 1} → statement M

@@ -1,0 +1,70 @@
+-- What an exported function tells, from what the function below it told, over plain variables.
+use mathlib.Core.Path.{_≡_, _∙_, sym, ap}
+use mathlib.Core.List.{List}
+use Prim.Native.Nat.{ℕ}
+use Rattle.characters.specs.Answers.{Answer}
+use Rattle.groups.specs.Numbers.{numberOf, numberOfWriting}
+use Rattle.groups.specs.Writing.{Wrote}
+use Rattle.groups.specs.declared.Refusal.{Refusal}
+use Rattle.groups.specs.declared.Judged.{Judged}
+use Rattle.groups.specs.declared.Written.{Written}
+use Rattle.station.specs.Numbers as station
+use Rattle.station.specs.Memory.{Memory, stationIn}
+use Rattle.station.specs.Contracts as contracts
+use Rattle.station.specs.History.{opens, delivers}
+use Rattle.station.specs.Laws.Refusals.{opens-called, delivers-called, serves-round}
+use Rattle.station.specs.declared.Reply.{Reply}
+use Rattle.station.specs.declared.RoundTold.{RoundTold}
+use Rattle.station.specs.Records.{Called, Rounded}
+use Rattle.espandim.specs.Calls.{Calls, Serves}
+use Rattle.espandim.specs.OneGroup.{stretchesOf, Judges, Writes}
+
+-- what a call tells in C: its number, and the station
+module _ (m n : Memory) (reply : Reply) (number : ℕ) (h : number ≡ station.numberOf reply) where
+  pub open-told : (line mode : ℕ) → contracts.Opens m line mode reply n → Calls m (opens line mode) number n
+  open-told line mode e =
+      let (station-is, number-is) = opens-called (stationIn m) line mode in
+      record {
+        returns = h ∙ ap (λ (c : Called). station.numberOf (c .reply)) e ∙ sym number-is;
+        leaves = ap (λ (c : Called). c .station) e ∙ sym station-is;
+      }
+
+  pub deliver-told : (line : ℕ) (bytes : List ℕ) → contracts.Delivers m line bytes reply n
+      → Calls m (delivers line bytes) number n
+  deliver-told line bytes e =
+      let (station-is, number-is) = delivers-called (stationIn m) line bytes in
+      record {
+        returns = h ∙ ap (λ (c : Called). station.numberOf (c .reply)) e ∙ sym number-is;
+        leaves = ap (λ (c : Called). c .station) e ∙ sym station-is;
+      }
+
+pub round-told : (m n : Memory) (sheet sheet' : List ℕ) (told : RoundTold) (number : ℕ)
+    → contracts.Serves m sheet told n sheet' → number ≡ station.numberOf (told .reply)
+    → Serves m sheet number n sheet' (told .counts)
+round-told m n sheet sheet' told number d h =
+    let (station-is, number-is, sheet-is, counts-are) = serves-round (stationIn m) sheet in
+    record {
+      calls = record {
+        returns = h ∙ ap (λ (r : Rounded). station.numberOf (r .reply)) (d .results) ∙ sym number-is;
+        leaves = ap (λ (r : Rounded). r .station) (d .results) ∙ sym station-is;
+      };
+      sheet-is = d .leaves ∙ sym sheet-is;
+      counts-are = ap (λ (r : Rounded). r .counts) (d .results) ∙ sym counts-are;
+    }
+
+pub judges : (j k : Judged) (n : ℕ) → j ≡ k → n ≡ numberOf (j .verdict) → Judges k n (stretchesOf j)
+judges j k n e h = record { numbers = h ∙ ap (λ (i : Judged). numberOf (i .verdict)) e; stretch = ap stretchesOf e }
+
+-- a writing is also that of an equal answer
+pub wrote-for : (a b : Answer Refusal (List ℕ)) (before after : List ℕ) (r : Written) → a ≡ b → Wrote b before r after
+    → Wrote a before r after
+wrote-for a b before after r e w = rw e w
+
+pub writes : (a : Answer Refusal (List ℕ)) (before after : List ℕ) (r : Written) (n : ℕ) → Wrote a before r after
+    → n ≡ numberOfWriting (r .outcome) → Writes a before n after (r .count)
+writes a before after r n w h =
+    record {
+      numbers = h ∙ ap (λ (t : Written). numberOfWriting (t .outcome)) (w .tells);
+      leaves = w .leaves;
+      counts = ap (λ (t : Written). t .count) (w .tells);
+    }

@@ -1,3 +1,0 @@
--- Laws that only the proofs of functions need.
-pub mod Telling
-pub mod Lent

@@ -1,0 +1,171 @@
+/* The boundary of Espandim to C: eight meters' lines behind five functions, which are proved in Rattle.
+ *
+ * Link with target/staticlib/libespandim.a, which `rt staticlib espandim` makes for x86-64 Linux; of the C library it needs
+ * memcpy and nothing else. The numbers are those of the table in document 01, the customer's scope page.
+ * crates/espandim/src/lib.rt has the contracts: each answer, and every byte that is lent, is fixed for every input.
+ *
+ * What the caller owes, since no proof can see to it:
+ *  - No pointer is null, not even one to no bytes at all: hand in any address of your own with a length of 0.
+ *  - A pointer is aligned for its type, and there is as much behind it as its type and the length beside it say, which
+ *    counts bytes and is below 2 to the 63.
+ *  - What may be written (a station, sheet, counts, buffer, stretches, written) overlaps nothing else that is handed in to
+ *    the same call. Label, stamp and data may overlap each other.
+ *  - Nobody else touches what is lent while the call runs. The functions keep no state of their own and no pointer:
+ *    two stations can be used at the same time.
+ *
+ * A refused call changes no byte of a station, a sheet or a buffer. Counts, stretches and *written are places for results,
+ * as the returned number is: every call sets them, a refused one to zeros.
+ */
+#ifndef ESPANDIM_H
+#define ESPANDIM_H
+
+#if defined(__has_include)
+#if __has_include(<stdint.h>) && __has_include(<stddef.h>)
+#define ESPANDIM_HAS_HEADERS
+#endif
+#endif
+
+#ifdef ESPANDIM_HAS_HEADERS
+#include <stddef.h>
+#include <stdint.h>
+#else /* a bare compiler, as the kit's own: its own names of the same types */
+typedef __SIZE_TYPE__ size_t;
+typedef __UINT8_TYPE__ uint8_t;
+typedef __UINT16_TYPE__ uint16_t;
+typedef __UINT32_TYPE__ uint32_t;
+#endif
+
+#ifdef __cplusplus
+#define ESPANDIM_ASSERT static_assert
+extern "C" {
+#else
+#define ESPANDIM_ASSERT _Static_assert
+#endif
+
+#define ESPANDIM_LINES 8             /* lines 0 to 7 */
+#define ESPANDIM_INBOX 256           /* bytes that can wait on a line */
+#define ESPANDIM_MOST_CONTENT 128    /* characters of a group's content */
+#define ESPANDIM_SMALLEST_SHEET 1080 /* bytes of a sheet that can hold every round */
+#define ESPANDIM_MOST_WRITTEN 130    /* bytes of the longest group that is written: LF, content and CR */
+
+#define ESPANDIM_HISTORIC 0
+#define ESPANDIM_STANDARD 1
+
+/* Document 01's numbers. 0 and 15 to 19 are those of calls; 1 to 14 those of a group or of an entry on a sheet. */
+enum espandim_number {
+    ESPANDIM_DONE = 0,
+    ESPANDIM_ACCEPTED = 1,
+    ESPANDIM_FRAME_SOUND = 2,
+    ESPANDIM_FRAME_FLAWED = 3,
+    ESPANDIM_FRAME_INTERRUPTED = 4,
+    ESPANDIM_FRAME_RESTARTED = 5,
+    ESPANDIM_GROUP_RESTARTED = 6,
+    ESPANDIM_GROUP_DAMAGED = 7,
+    ESPANDIM_TOO_LONG = 8,
+    ESPANDIM_MISSHAPEN = 9,
+    ESPANDIM_CHECK_WRONG = 10,
+    ESPANDIM_LABEL_UNKNOWN = 11,
+    ESPANDIM_STAMP_WRONG = 12,
+    ESPANDIM_WIDTH_WRONG = 13,
+    ESPANDIM_KIND_WRONG = 14,
+    ESPANDIM_NO_ROOM = 15,
+    ESPANDIM_LINE_UNKNOWN = 16,
+    ESPANDIM_LINE_CLOSED = 17,
+    ESPANDIM_SHEET_SHORT = 18,
+    ESPANDIM_MODE_UNKNOWN = 19
+};
+
+/* The station: four arrays, with a row for each line, 3,168 bytes in all and none of them padding. It is there so that a
+ * caller can set a station's memory aside, and copy it as a value; only the functions below read and write what is in it.
+ * Memory of zeros is the station with all lines closed: `struct espandim_station station = {0};` or memset. No bytes are
+ * a wrong station: whatever lies in it, each call has one fixed answer and stays inside. */
+struct espandim_station {
+    uint8_t marks[ESPANDIM_LINES][6];   /* opened, mode, phase, flaw, damaged, overlong */
+    uint16_t places[ESPANDIM_LINES][3]; /* length of the content, first waiting byte, count of waiting bytes */
+    uint8_t contents[ESPANDIM_LINES][ESPANDIM_MOST_CONTENT];
+    uint8_t inboxes[ESPANDIM_LINES][ESPANDIM_INBOX];
+};
+
+ESPANDIM_ASSERT(sizeof(struct espandim_station) == ESPANDIM_LINES * (6 + 2 * 3 + ESPANDIM_MOST_CONTENT + ESPANDIM_INBOX),
+                "a station has no padding");
+ESPANDIM_ASSERT(sizeof(size_t) == 8, "the archive is for a machine of 64 bits");
+
+/* The functions of the archive, for bindings of other languages: each takes the four arrays by their addresses, of which
+ * none may overlap another. In C, espandim_open, espandim_deliver and espandim_round below hand in those of a struct. */
+uint32_t espandim_rows_open(uint8_t *marks, uint16_t *places, const uint8_t *contents, const uint8_t *inboxes,
+                            uint32_t line, uint32_t mode);
+uint32_t espandim_rows_deliver(const uint8_t *marks, uint16_t *places, const uint8_t *contents, uint8_t *inboxes,
+                               uint32_t line, const uint8_t *bytes, size_t length);
+uint32_t espandim_rows_round(uint8_t *marks, uint16_t *places, uint8_t *contents, const uint8_t *inboxes, uint8_t *sheet,
+                             size_t length, uint8_t *counts);
+
+/* Opens a line in a mode, whether it was open or not: its inbox is empty then, and the line outside of every frame.
+ *   0   opened
+ *   16  line is 8 or more
+ *   19  mode is neither 0 (historic) nor 1 (standard)
+ * The first that holds is given; 16 and 19 change nothing. */
+static inline uint32_t espandim_open(struct espandim_station *station, uint32_t line, uint32_t mode) {
+    return espandim_rows_open(station->marks[0], station->places[0], station->contents[0], station->inboxes[0], line, mode);
+}
+
+/* Adds bytes, as they came off the wire, to the inbox of an open line: all of them or none.
+ *   0   added, also where there were none to add
+ *   16  line is 8 or more
+ *   17  the line is closed
+ *   15  the inbox has no room for all of them; a round makes room
+ * The first that holds is given; 16, 17 and 15 change nothing. */
+static inline uint32_t espandim_deliver(struct espandim_station *station, uint32_t line, const uint8_t *bytes,
+                                        size_t length) {
+    return espandim_rows_deliver(station->marks[0], station->places[0], station->contents[0], station->inboxes[0], line,
+                                 bytes, length);
+}
+
+/* Gives each open line its turn, which takes its oldest bytes, at most 64, up to one that gives an answer, and writes
+ * the sheet:
+ *   bytes 0 to 7    how many bytes the turn of each line took
+ *   bytes 8 to 23   for each line where its entry starts, two bytes, low byte first; 0 where it has no answer
+ *   from byte 24    the entries: the answer's number (1 to 14), the lengths of label, stamp and data, and these three;
+ *                   all but 1 have three zeros and no text
+ * The bytes behind the last entry stay as they were. The counts are set to how many bytes each turn took.
+ *   0   done
+ *   18  the sheet has under 1,080 bytes: no byte was taken and nothing changed, the sheet included; the counts are zeros */
+static inline uint32_t espandim_round(struct espandim_station *station, uint8_t *sheet, size_t length,
+                                      uint8_t counts[ESPANDIM_LINES]) {
+    return espandim_rows_round(station->marks[0], station->places[0], station->contents[0], station->inboxes[0], sheet,
+                               length, counts);
+}
+
+/* Judges the content of one group, what stands between LF and CR, in characters with no parity bit. The stretches are
+ * set to start and length of label, stamp and data, in the content itself; a label without a stamp has an empty one.
+ *   1   accepted
+ *   19  mode is neither 0 nor 1
+ *   8   over 128 characters
+ *   9   under 4 characters, or the separators not where they must be
+ *   10  check character wrong
+ *   11  label not in the mode's list
+ *   12  stamp not right
+ *   13  data not of the label's width
+ *   14  a character of the data not of the label's kind
+ * The first that holds is given; all but 1 leave six zeros in the stretches. */
+uint32_t espandim_judge(uint32_t mode, const uint8_t *content, size_t length, size_t stretches[6]);
+
+/* Writes LF, the content of the group with these fields, and CR, as sound wire bytes, at the start of the buffer, and
+ * sets *written to how many bytes these are. The rest of the buffer stays as it was.
+ *   0   written
+ *   19  mode is neither 0 nor 1
+ *   11  label not in the mode's list
+ *   12  stamp not right, missing, or given to a label that has none
+ *   13  data not of the label's width
+ *   14  a character of the data not of the label's kind
+ *   15  the buffer has no room for all of it
+ * The first that holds is given; all but 0 leave the buffer as it was and 0 in *written. */
+uint32_t espandim_write(uint32_t mode, const uint8_t *label, size_t label_length, const uint8_t *stamp, size_t stamp_length,
+                   const uint8_t *data, size_t data_length, uint8_t *buffer, size_t buffer_length, size_t *written);
+
+#ifdef __cplusplus
+}
+#endif
+#undef ESPANDIM_ASSERT
+#undef ESPANDIM_HAS_HEADERS
+
+#endif
