@@ -10,36 +10,27 @@ use Rattle.groups.specs.declared.Judged.{Judged}
 use Rattle.groups.specs.declared.Written.{Written}
 use Rattle.station.specs.Numbers as station
 use Rattle.station.specs.Memory.{Memory, stationIn}
-use Rattle.station.specs.Contracts as contracts
-use Rattle.station.specs.History.{opens, delivers}
-use Rattle.station.specs.Laws.Refusals.{opens-called, delivers-called, serves-round}
+use Rattle.station.specs.Contracts.{calledAs, Serves as Served}
+use Rattle.station.specs.History.{Call, next, gets}
+use Rattle.station.specs.Laws.Refusals.{serves-round}
 use Rattle.station.specs.declared.Reply.{Reply}
 use Rattle.station.specs.declared.RoundTold.{RoundTold}
 use Rattle.station.specs.Records.{Called, Rounded}
 use Rattle.espandim.specs.Calls.{Calls, Serves}
 use Rattle.espandim.specs.OneGroup.{stretchesOf, Judges, Writes}
 
--- what a call tells in C: its number, and the station
-module _ (m n : Memory) (reply : Reply) (number : ℕ) (h : number ≡ station.numberOf reply) where
-  pub open-told : (line mode : ℕ) → contracts.Opens m line mode reply n → Calls m (opens line mode) number n
-  open-told line mode e =
-      let (station-is, number-is) = opens-called (stationIn m) line mode in
-      record {
-        returns = h ∙ ap (λ (c : Called). station.numberOf (c .reply)) e ∙ sym number-is;
-        leaves = ap (λ (c : Called). c .station) e ∙ sym station-is;
-      }
-
-  pub deliver-told : (line : ℕ) (bytes : List ℕ) → contracts.Delivers m line bytes reply n
-      → Calls m (delivers line bytes) number n
-  deliver-told line bytes e =
-      let (station-is, number-is) = delivers-called (stationIn m) line bytes in
-      record {
-        returns = h ∙ ap (λ (c : Called). station.numberOf (c .reply)) e ∙ sym number-is;
-        leaves = ap (λ (c : Called). c .station) e ∙ sym station-is;
-      }
+-- an opening or a delivery tells in C the number of its reply, and leaves the same station
+pub call-told : (m n : Memory) (reply : Reply) (number : ℕ) → number ≡ station.numberOf reply → (c : Call) (a : Called)
+    → (next (stationIn m) c ≡ a .station) × (gets (stationIn m) c .number ≡ station.numberOf (a .reply))
+    → calledAs (stationIn n) reply ≡ a → Calls m c number n
+call-told m n reply number h c a (station-is, number-is) e =
+    record {
+      returns = h ∙ ap (λ (d : Called). station.numberOf (d .reply)) e ∙ sym number-is;
+      leaves = ap (λ (d : Called). d .station) e ∙ sym station-is;
+    }
 
 pub round-told : (m n : Memory) (sheet sheet' : List ℕ) (told : RoundTold) (number : ℕ)
-    → contracts.Serves m sheet told n sheet' → number ≡ station.numberOf (told .reply)
+    → Served m sheet told n sheet' → number ≡ station.numberOf (told .reply)
     → Serves m sheet number n sheet' (told .counts)
 round-told m n sheet sheet' told number d h =
     let (station-is, number-is, sheet-is, counts-are) = serves-round (stationIn m) sheet in

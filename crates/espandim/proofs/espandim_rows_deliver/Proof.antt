@@ -1,6 +1,8 @@
 -- A delivery, by whether there is the line.
-use Rattle.espandim.proofs.Telling.{deliver-told}
+use Rattle.espandim.proofs.Telling.{call-told}
 use Rattle.station.proofs.Openings.{deliver-no-line}
+use Rattle.station.specs.History.{delivers}
+use Rattle.station.specs.Laws.Refusals.{delivers-called}
 use mathlib.Core.Path.{refl}
 use Rattle.station.specs.Memory.{Memory, behind, stationIn}
 use borrow.Author.Needs.{needs}
@@ -26,16 +28,20 @@ returns : tie.Need-returns
 returns c =
     let at-deliver = c .before in
     let start = at-deliver .before .before .before .before .before in
-    deliver-told (lent start) _ _ _ (c .number-of .ensures) (start .args .line) (start .args .bytes .now)
-    (at-deliver .deliver .ensures)
+    let line = start .args .line in
+    let bytes = start .args .bytes .now in
+    call-told (lent start) _ _ _ (c .number-of .ensures) (delivers line bytes) _
+    (delivers-called (stationIn (lent start)) line bytes) (at-deliver .deliver .ensures)
 
 returns-2 : tie.Need-returns-2
 returns-2 c =
     let start = c .before .before in
+    let line = start .args .line in
+    let bytes = start .args .bytes .now in
     let m = lent start in
     let s = stationIn m in
-    deliver-told m m _ 16 refl (start .args .line) (start .args .bytes .now)
-    (deliver-no-line s (start .args .line) (start .args .bytes .now) (c .if1 .left))
+    call-told m m _ 16 refl (delivers line bytes) _ (delivers-called s line bytes)
+    (deliver-no-line s line bytes (c .if1 .left))
 
 pub espandim-rows-deliver-spec : {M : Type 1} → statement M
 espandim-rows-deliver-spec =
