@@ -1,5 +1,5 @@
--- One group as a caller in C has it judged and written: the answer is document 01's number, and what else is told lies
--- in numbers that the caller lends.
+-- One group as a caller in C has it judged and written: the answer is document 01's number, and what else is told is set
+-- in places that the caller has for it, by every call, refused or not.
 use mathlib.Core.Path.{_≡_}
 use mathlib.Core.List.{List, [], _∷_}
 use Prim.Native.Nat.{ℕ}
@@ -14,12 +14,12 @@ abbrev pub stretchesOf : Judged → List ℕ
 stretchesOf j =
     j .label .start ∷ j .label .length ∷ j .stamp .start ∷ j .stamp .length ∷ j .«data» .start ∷ j .«data» .length ∷ []
 
--- what a judging hands back, and the six lent numbers afterwards, are those of what is shown
+-- what a judging hands back, the number and the six of the stretches, is that of what is shown
 pub record Judges (j : Judged) (number : ℕ) (stretches : List ℕ) : Type 0 where
   pub numbers : number ≡ numberOf (j .verdict)
   pub stretch : stretches ≡ stretchesOf j
 
--- what a writing hands back, the lent buffer and the lent count afterwards are those of an answer
+-- what a writing hands back, the number and the count, and the lent buffer afterwards are those of an answer
 pub record Writes (a : Answer Refusal (List ℕ)) (before : List ℕ) (number : ℕ) (after : List ℕ) (count : ℕ)
     : Type 0 where
   pub numbers : number ≡ numberOfWriting (told a .outcome)

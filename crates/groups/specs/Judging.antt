@@ -50,7 +50,8 @@ partOf s c = pick (leb (s .start + s .length) (length c)) (take (s .length) (dro
 unfoldable pub partStart : Stretch → List ℕ → ℕ
 partStart s c = pick (leb (s .start + s .length) (length c)) (s .start) 0
 
--- "of its own bytes, not copies": the part of a lent content lies in the caller's memory, so far behind its beginning
+-- "of its own bytes, not copies": the part of a lent content lies in the caller's memory, so far behind its beginning. (A
+-- place in memory is a block and how many bytes from the block's beginning.)
 pub record Part (s : Stretch) (content part : RefT (List ℕ)) : Type 0 where
   pub lies : ptr part ≡ (ptr content .0, partStart s (now content) + ptr content .1)
   pub bytes : now part ≡ partOf s (now content)
