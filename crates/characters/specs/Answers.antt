@@ -175,31 +175,7 @@ module _ {ℓ} {X : Type ℓ} where
 
 -- ---- Conditions in a row, as document 01's table of numbers has them
 
-module _ {R A : Type 0} where
-  -- the refusal of the first condition that holds, or the value where none does
-  unfoldable pub firstRefusal : List (R × Bool) → A → Answer R A
-  firstRefusal [] a = given a
-  firstRefusal ((n, holds) ∷ more) a = need (not holds) n (firstRefusal more a)
-
--- n is the refusal of the first condition that holds
-pub data IsFirst {R : Type 0} (n : R) : List (R × Bool) → Type 0 where
-  here : {more : List (R × Bool)} → IsFirst n ((n, true) ∷ more)
-  later : {k : R} {more : List (R × Bool)} → IsFirst n more → IsFirst n ((k, false) ∷ more)
-
--- ---- A refusal is that of the first condition that holds
-
-module _ {R A : Type 0} where
-  first-is : (cs : List (R × Bool)) (a : A) (n : R) → firstRefusal cs a ≡ refused n → IsFirst n cs
-  unfolding firstRefusal need
-  first-is [] a n e = not-given (sym e)
-  first-is ((k, true) ∷ more) a n e = let q : k ≡ n = cc in subst (λ (j : R). IsFirst j ((k, true) ∷ more)) q here
-  first-is ((k, false) ∷ more) a n e = later (first-is more a n e)
-
-  is-first : (cs : List (R × Bool)) (a : A) (n : R) → IsFirst n cs → firstRefusal cs a ≡ refused n
-  unfolding firstRefusal need
-  is-first cs a n here = refl
-  is-first cs a n (later {more = more} h) = is-first more a n h
-
-  -- the row refuses with n exactly when n is the refusal of the first condition that holds
-  pub first-refused : (cs : List (R × Bool)) (a : A) (n : R) → (firstRefusal cs a ≡ refused n) ↔ IsFirst n cs
-  first-refused cs a n = (first-is cs a n, is-first cs a n)
+-- the number of the first condition that holds; n where none does
+unfoldable pub firstOf : ℕ → List (ℕ × Bool) → ℕ
+firstOf n [] = n
+firstOf n ((k, holds) ∷ more) = pick holds k (firstOf n more)

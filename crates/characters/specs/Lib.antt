@@ -1,4 +1,6 @@
--- What the crate's contracts cite, and what the whole build shares.
+-- What the crate's contracts cite, and what the whole build shares; then what is promised.
 pub mod Answers
 pub mod Wire
+pub mod Damage
 pub mod WireLaws
+pub mod Promises

@@ -1,14 +1,15 @@
 -- Laws of characters on the wire: each is a test that antt computes over every character, or over every byte.
-use mathlib.Core.Path.{_≡_, refl, sym, ap, _∙_, subst}
-use mathlib.Core.Logic.{_↔_}
-use mathlib.Core.Bool.{Bool, true, false, not, _&&_, _||_}
-use mathlib.Core.List.{List, [], _∷_}
-use Prim.Native.Nat.{ℕ, _+_, _*_, _%_, _<_}
-use native.Mathlib.Nat.{mod-eq-of-lt}
+use mathlib.Core.Path.{_≡_, refl}
+use mathlib.Core.Logic.{_↔_, _⊎_, inl, inr}
+use mathlib.Core.Bool.{Bool, true, false, not}
+use Prim.Native.Nat.{ℕ, _+_, _%_, _<_}
+use native.Mathlib.Nat.{lt-of-not-le}
+use native.Mathlib.Decide.{decLe}
 use native.Mathlib.Omega.{arith}
 use lib.Dec.{T, eqb, eqb→eq}
 use borrow.Author.Tests.{eq-eqb}
-use Rattle.characters.specs.Answers.{below, below-at, is-true, from-true}
+use Rattle.characters.specs.Answers.{below, below-at, is-true, from-true, pick}
+use Rattle.characters.specs.Damage.{damaged}
 use Rattle.characters.specs.Wire.{
   countOfOnes,
   isSound,
@@ -58,11 +59,47 @@ agree-both true b t = (λ x. t, λ y. tt)
 agree-both false true t = absurd t
 agree-both false false t = (λ x. x, λ y. y)
 
+agree-same : (a b : Bool) → T (agree a b) → a ≡ b
+unfolding agree
+agree-same true true t = refl
+agree-same true false t = absurd t
+agree-same false true t = absurd t
+agree-same false false t = refl
+
 pub sound-exactly : (wire : ℕ) → wire < 256 → (isSound wire ≡ true) ↔ (wireByteOf (characterOf wire) ≡ wire)
 unfolding isSound characterOf wireByteOf countOfOnes agree
 sound-exactly wire h =
     let both = agree-both (isSound wire) (eqb (wireByteOf (characterOf wire)) wire) (below-at (λ k. agree (isSound k) (eqb (wireByteOf (characterOf k)) k)) 256 tt wire h) in
     (λ e. eqb→eq _ _ (both .0 (from-true e)), λ e. is-true (both .1 (from-true (eq-eqb _ _ e))))
+
+-- ---- Said a second time
+
+-- the low seven bits of a byte
+pub low-seven : (wire : ℕ) → wire < 256
+    → (characterOf wire < 128) × ((wire ≡ characterOf wire) ⊎ (wire ≡ 128 + characterOf wire))
+unfolding characterOf
+low-seven wire h =
+    (character-below wire, elim (decLe 128 wire) [ yes k ↦ inr (omega arith) | no k ↦ inl (omega (arith, lt-of-not-le k)) ])
+
+-- the wire byte of any number, read back
+pub wire-back : (code : ℕ) → (isSound (wireByteOf code) ≡ true) × (characterOf (wireByteOf code) ≡ code % 128)
+wire-back code = (wire-sound code, rw (← (low-bits code)) (wire-character (code % 128) (omega arith)))
+
+-- one bit of a byte changed
+abbrev tells : ℕ → ℕ → Bool
+tells wire bit = agree (isSound (damaged bit wire)) (not (isSound wire))
+
+all-tell : T (below (λ wire. below (tells wire) 8) 256)
+unfolding isSound countOfOnes damaged pick agree
+all-tell = tt
+
+pub damage-told :
+    (isSound 0 ≡ true) × ((wire bit : ℕ) → wire < 256 → bit < 8 → isSound (damaged bit wire) ≡ not (isSound wire))
+unfolding isSound countOfOnes
+damage-told = (
+  refl,
+  λ wire bit h k. agree-same _ _ (below-at (tells wire) 8 (below-at (λ wire. below (tells wire) 8) 256 all-tell wire h) bit k),
+)
 
 -- each control character and separator, with the wire byte that document 01 gives it or that its two ones leave as it is
 pub control-wires :

@@ -5,7 +5,7 @@ use mathlib.Core.Path.{_≡_}
 use mathlib.Core.List.{List, [], _∷_}
 use Prim.Native.Nat.{ℕ}
 use Rattle.station.specs.Memory.{Memory, stationIn}
-use Rattle.station.specs.History.{Call, serves, next, gets}
+use Rattle.station.specs.History.{Call, opens, delivers, serves, Got, next, gets}
 
 -- what a call returns, and the memory afterwards, are those of the call: the contracts of `espandim_rows_open` and
 -- `espandim_rows_deliver`. "Opening: 16, 19. Delivery: 16, 17, 15."
@@ -19,8 +19,16 @@ pub record Serves (m : Memory) (sheet : List ℕ) (number : ℕ) (n : Memory) (s
   pub sheet-is : sheet' ≡ gets (stationIn m) (serves sheet) .lent
   pub counts-are : counts ≡ gets (stationIn m) (serves sheet) .counts
 
--- calls one after the other, from one memory to another, each as its contract allows, and the numbers that they return
-pub data Made : Memory → List Call → List ℕ → Memory → Type 0 where
+-- calls one after the other, from one memory to another, each as its contract allows, and what their callers got of them:
+-- the number, the counts of a round, and the lent bytes afterwards
+pub data Made : Memory → List Call → List Got → Memory → Type 0 where
   no-call : {m : Memory} → Made m [] [] m
-  one-call : {m n o : Memory} {c : Call} {cs : List Call} {number : ℕ} {numbers : List ℕ} → Calls m c number n
-      → Made n cs numbers o → Made m (c ∷ cs) (number ∷ numbers) o
+  opened : {m n o : Memory} {cs : List Call} {gots : List Got} (line mode number : ℕ)
+      → Calls m (opens line mode) number n → Made n cs gots o
+      → Made m (opens line mode ∷ cs) (record { number = number; counts = []; lent = [] } ∷ gots) o
+  delivered : {m n o : Memory} {cs : List Call} {gots : List Got} (line : ℕ) (bytes : List ℕ) (number : ℕ)
+      → Calls m (delivers line bytes) number n → Made n cs gots o
+      → Made m (delivers line bytes ∷ cs) (record { number = number; counts = []; lent = bytes } ∷ gots) o
+  served : {m n o : Memory} {cs : List Call} {gots : List Got} (sheet sheet' counts : List ℕ) (number : ℕ)
+      → Serves m sheet number n sheet' counts → Made n cs gots o
+      → Made m (serves sheet ∷ cs) (record { number = number; counts = counts; lent = sheet' } ∷ gots) o

@@ -17,12 +17,24 @@ use Rattle.station.specs.Fixed.{fixed, zeros-closed}
 use Rattle.station.specs.Stations.{called}
 use Rattle.station.specs.Numbers as station
 use Rattle.station.specs.Sheets.{smallestSheet}
-use Rattle.station.specs.History.{Call, opens, delivers, serves, next, gets, run}
-use Rattle.station.specs.Due.{numberDue}
+use Rattle.station.specs.Reading.{readTurn}
+use Rattle.station.specs.History.{
+  Call,
+  opens,
+  delivers,
+  serves,
+  Got,
+  gets,
+  run,
+  gotsOf,
+  accountBy,
+  accountOf,
+}
+use Rattle.station.specs.Due.{numberDue, turnDue}
 use Rattle.station.specs.Demands as demands
 use Rattle.station.specs.Laws.Refusals as refusals
 use Rattle.station.specs.Records.{Station}
-use Rattle.espandim.specs.Calls.{Calls, Serves, Made, no-call, one-call}
+use Rattle.espandim.specs.Calls.{Calls, Serves, Made, no-call, opened, delivered, served}
 use Rattle.espandim.specs.OneGroup.{stretchesOf}
 
 -- ---- "A refused call changes no line and no lent byte."
@@ -85,33 +97,58 @@ write-no-mode mode g buffer room h =
 
 -- ---- Calls one after the other
 
--- Calls through `espandim.h` leave the station of the same calls in the station's demands, and each returns the number,
--- and a round the sheet and the counts, of which they speak (`Calls`, `Serves`). So every demand holds of what a caller
--- in C sees.
-pub same-station : {m n : Memory} {cs : List Call} {numbers : List ℕ} → Made m cs numbers n
+-- Calls through `espandim.h` leave the station of the same calls in the station's demands.
+pub same-station : {m n : Memory} {cs : List Call} {gots : List Got} → Made m cs gots n
     → stationIn n ≡ run (stationIn m) cs
 same-station no-call = refl
-same-station {cs = c ∷ cs} (one-call a made) = same-station made ∙ ap (λ (s : Station). run s cs) (a .leaves)
+same-station (opened {cs = cs} line mode number a made) =
+    same-station made ∙ ap (λ (s : Station). run s cs) (a .leaves)
+same-station (delivered {cs = cs} line bytes number a made) =
+    same-station made ∙ ap (λ (s : Station). run s cs) (a .leaves)
+same-station (served {cs = cs} sheet sheet' counts number a made) =
+    same-station made ∙ ap (λ (s : Station). run s cs) (a .calls .leaves)
 
--- Such as: from memory of zeros, whatever was called, the next call returns the number that document 01 gives it.
-pub numbers-due : {m n : Memory} {cs : List Call} {numbers : List ℕ} (c : Call) (number : ℕ) → Made zeros cs numbers m
+-- And their callers get what the demands speak of: every number, and a round's counts and sheet.
+pub same-gots : {m n : Memory} {cs : List Call} {gots : List Got} → Made m cs gots n → gots ≡ gotsOf (stationIn m) cs
+same-gots no-call = refl
+same-gots {m = m} (opened {cs = cs} line mode number a made) =
+    ap₂ (λ (g : Got) (gs : List Got). g ∷ gs) (refusals.opens-got (stationIn m) line mode number (a .returns))
+    (same-gots made ∙ ap (λ (s : Station). gotsOf s cs) (a .leaves))
+same-gots {m = m} (delivered {cs = cs} line bytes number a made) =
+    ap₂ (λ (g : Got) (gs : List Got). g ∷ gs) (refusals.delivers-got (stationIn m) line bytes number (a .returns))
+    (same-gots made ∙ ap (λ (s : Station). gotsOf s cs) (a .leaves))
+same-gots {m = m} (served {cs = cs} sheet sheet' counts number a made) =
+    ap₂ (λ (g : Got) (gs : List Got). g ∷ gs)
+    (rw (a .calls .returns, a .counts-are, a .sheet-is))
+    (same-gots made ∙ ap (λ (s : Station). gotsOf s cs) (a .calls .leaves))
+
+-- So from memory of zeros every demand holds of what a caller in C sees: the account of a line that is made of what came
+-- back through `espandim.h` is the one of which the demands are.
+pub same-account : {m : Memory} {cs : List Call} {gots : List Got} (i : ℕ) → Made zeros cs gots m
+    → accountBy i cs gots ≡ accountOf i cs
+same-account {cs = cs} i made =
+    ap (accountBy i cs) (same-gots made ∙ ap (λ (s : Station). gotsOf s cs) zeros-closed)
+
+-- Such as: whatever was called, the next call returns the number that document 01 gives it.
+pub numbers-due : {m n : Memory} {cs : List Call} {gots : List Got} (c : Call) (number : ℕ) → Made zeros cs gots m
     → Calls m c number n → number ≡ numberDue cs c
 numbers-due {cs = cs} c number made a =
     a .returns
     ∙ ap (λ (s : Station). gets s c .number) (same-station made ∙ ap (λ (s : Station). run s cs) zeros-closed)
     ∙ demands.numbers-due cs c
 
--- And the same calls, from memories that hold the same station, return the same numbers, and leave the same memory in
--- every number and byte.
-same-numbers : {m m' n n' : Memory} {cs : List Call} {numbers numbers' : List ℕ} → stationIn m ≡ stationIn m'
-    → Made m cs numbers n → Made m' cs numbers' n' → numbers ≡ numbers'
-same-numbers e no-call no-call = refl
-same-numbers {cs = c ∷ cs} e (one-call a made) (one-call b made') =
-    ap₂ (λ (x : ℕ) (xs : List ℕ). x ∷ xs)
-    (a .returns ∙ ap (λ (s : Station). gets s c .number) e ∙ sym (b .returns))
-    (same-numbers (a .leaves ∙ ap (λ (s : Station). next s c) e ∙ sym (b .leaves)) made made')
+-- And: a round's sheet tells of each line exactly the bytes up to and including the first of the oldest 64 that gives an
+-- answer.
+pub counts-right : {m n : Memory} {cs : List Call} {gots : List Got} (i : ℕ) (sheet sheet' counts : List ℕ) (number : ℕ)
+    → i < 8 → 1080 ≤ length sheet → Made zeros cs gots m → Serves m sheet number n sheet' counts
+    → readTurn sheet' i ≡ turnDue 64 (accountBy i cs gots)
+counts-right {cs = cs} i sheet sheet' counts number h t made a =
+    let e = same-station made ∙ ap (λ (s : Station). run s cs) zeros-closed in
+    ap (λ (l : List ℕ). readTurn l i) (a .sheet-is ∙ ap (λ (s : Station). gets s (serves sheet) .lent) e)
+    ∙ demands.counts-right i cs sheet h t ∙ ap (turnDue 64) (sym (same-account i made))
 
-pub same-memory : {m n n' : Memory} {cs : List Call} {numbers numbers' : List ℕ} → Sized n → Sized n'
-    → Made m cs numbers n → Made m cs numbers' n' → (numbers ≡ numbers') × (n ≡ n')
+-- The same calls from the same memory return the same, and leave the same memory in every number and byte.
+pub same-memory : {m n n' : Memory} {cs : List Call} {gots gots' : List Got} → Sized n → Sized n'
+    → Made m cs gots n → Made m cs gots' n' → (gots ≡ gots') × (n ≡ n')
 same-memory {n = n} {n' = n'} y z made made' =
-    (same-numbers refl made made', fixed n n' y z (same-station made ∙ sym (same-station made')))
+    (same-gots made ∙ sym (same-gots made'), fixed n n' y z (same-station made ∙ sym (same-station made')))

@@ -1,30 +1,20 @@
--- Document 01's column "Given exactly when", for a content: what is wrong with it, by places. Nothing here says how a
--- reader works; `Promises.antt` says that the reader's answer is the first of these that holds.
+-- Document 01's column "Given exactly when", for a content: its numbers, each with what is wrong with the content, by
+-- places. Nothing here says how a reader works; `Promises.antt` says that the number that judging tells is the first of
+-- these whose condition holds.
 use mathlib.Core.Bool.{Bool, true, false, not, _&&_, _||_}
 use mathlib.Core.Option.{Option, none, some}
 use mathlib.Core.List.{List, [], _∷_}
 use Prim.Native.Nat.{ℕ, zero, suc, _+_, _-_, _%_}
 use lib.Dec.{eqb, ltb}
 use lib.ListN.{length, take, drop, getD}
-use Rattle.characters.specs.Answers.{pick}
-use Rattle.groups.specs.Modes.{modeOf, separator}
+use Rattle.characters.specs.Answers.{every, pick}
+use Rattle.groups.specs.Modes.{separator}
 use Rattle.groups.specs.Table.{lookup, rows}
 use Rattle.groups.specs.Stamps.{isStamped, stampRight}
-use Rattle.groups.specs.Fields.{widthRight, kindRight}
-use Rattle.groups.specs.Groups.{Group, groupOf, total}
+use Rattle.groups.specs.Groups.{Group, groupOf}
+use Rattle.groups.specs.Spelled.{among, spelled}
 use Rattle.groups.specs.declared.Mode.{Mode}
 use Rattle.groups.specs.declared.Mode.the-variants.{Historic, Standard}
-use Rattle.groups.specs.declared.Refusal.{Refusal}
-use Rattle.groups.specs.declared.Refusal.the-variants.{
-  TooLong,
-  Misshapen,
-  CheckWrong,
-  LabelUnknown,
-  StampWrong,
-  WidthWrong,
-  KindWrong,
-  ModeUnknown,
-}
 use Rattle.groups.specs.declared.table.Rule.{Rule}
 
 -- the place of the first character of this code; the length where there is none
@@ -58,9 +48,14 @@ abbrev pub summed : Mode → List ℕ → ℕ
 summed Historic c = length c - 2
 summed Standard c = length c - 1
 
+-- "add the character codes": of the first n
+unfoldable pub sumOf : ℕ → List ℕ → ℕ
+sumOf zero c = 0
+sumOf (suc n) c = sumOf n c + getD c n 0
+
 -- 10: "check character wrong"
 unfoldable pub checkWrong : Mode → List ℕ → Bool
-checkWrong m c = not (eqb (getD c (length c - 1) 0) (total (take (summed m c) c) % 64 + 32))
+checkWrong m c = not (eqb (getD c (length c - 1) 0) (sumOf (summed m c) c % 64 + 32))
 
 -- ---- What is wrong with the fields, by the rule that the label has, if it has one
 
@@ -92,36 +87,34 @@ stampIn true body = take 13 body
 -- 13: "data not of the width"
 abbrev pub widthWrong : List ℕ → Option Rule → Bool
 widthWrong body none = false
-widthWrong body (some rule) = not (widthRight rule (length (dataIn (isStamped (rule .mark)) body)))
+widthWrong body (some rule) = not (eqb (length (dataIn (isStamped (rule .mark)) body)) (rule .width))
 
 -- 14: "a data character not of the kind"
 abbrev pub kindWrong : List ℕ → Option Rule → Bool
 kindWrong body none = false
-kindWrong body (some rule) = not (kindRight rule (dataIn (isStamped (rule .mark)) body))
+kindWrong body (some rule) = not (every (among (spelled (rule .kind))) (dataIn (isStamped (rule .mark)) body))
 
 -- "Order: 7 to 14 as numbered"; 7 is the line's
-abbrev pub fieldConditions : Mode → List ℕ → Option Rule → List (Refusal × Bool)
+abbrev pub fieldConditions : Mode → List ℕ → Option Rule → List (ℕ × Bool)
 fieldConditions m body rule =
-    (LabelUnknown, unlisted rule)
-    ∷ (StampWrong, stampWrong m body rule)
-    ∷ (WidthWrong, widthWrong body rule)
-    ∷ (KindWrong, kindWrong body rule)
+    (11, unlisted rule)
+    ∷ (12, stampWrong m body rule)
+    ∷ (13, widthWrong body rule)
+    ∷ (14, kindWrong body rule)
     ∷ []
 
-unfoldable pub conditions : Mode → List ℕ → List (Refusal × Bool)
+unfoldable pub conditions : Mode → List ℕ → List (ℕ × Bool)
 conditions m c =
-    (TooLong, ltb 128 (length c))
-    ∷ (Misshapen, misshapen m c)
-    ∷ (CheckWrong, checkWrong m c)
+    (8, ltb 128 (length c))
+    ∷ (9, misshapen m c)
+    ∷ (10, checkWrong m c)
     ∷ fieldConditions m (bodyOf m c) (lookup (labelOf m c) (rows m))
 
--- "after 19 where a mode is handed in": 19, "mode not 0 or 1"
-abbrev pub conditionsIn : Option Mode → List ℕ → List (Refusal × Bool)
-conditionsIn none c = (ModeUnknown, true) ∷ []
-conditionsIn (some m) c = (ModeUnknown, false) ∷ conditions m c
-
-unfoldable pub givenWhen : ℕ → List ℕ → List (Refusal × Bool)
-givenWhen number c = conditionsIn (modeOf number) c
+-- "after 19 where a mode is handed in": 19, "mode not 0 or 1"; "Mode 0 is historic .. Mode 1 is standard"
+unfoldable pub givenWhen : ℕ → List ℕ → List (ℕ × Bool)
+givenWhen zero c = (19, false) ∷ conditions Historic c
+givenWhen (suc zero) c = (19, false) ∷ conditions Standard c
+givenWhen (suc (suc number)) c = (19, true) ∷ []
 
 -- the fields of a content with nothing wrong
 abbrev pub markedFields : Mode → List ℕ → Option Rule → Group

@@ -10,7 +10,6 @@ use Rattle.groups.specs.Modes.{modeOf}
 use Rattle.groups.specs.Groups.{Group, read}
 use Rattle.groups.specs.declared.Refusal.{Refusal}
 use Rattle.groups.specs.declared.Refusal.the-variants.{ModeUnknown}
-use Rattle.groups.specs.declared.Verdict.{Verdict}
 use Rattle.groups.specs.declared.Verdict.the-variants.{Accepted, Refused}
 use Rattle.groups.specs.declared.Stretch.{Stretch}
 use Rattle.groups.specs.declared.Judged.{Judged}

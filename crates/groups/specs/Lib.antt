@@ -9,9 +9,14 @@ pub mod Groups
 pub mod Numbers
 pub mod Judging
 pub mod Writing
+pub mod Spelled
 pub mod Conditions
+pub mod WriterConditions
+pub mod Stretches
 pub mod Inside
+pub mod RightStamps
 pub mod Right
+pub mod Listed
 pub mod Laws
 pub mod Promises
 pub mod Figures

@@ -1,20 +1,32 @@
 -- What the crate promises of judging and writing groups: only the statements need to be read.
-use mathlib.Core.Path.{_≡_}
+use mathlib.Core.Path.{_≡_, refl}
 use mathlib.Core.Logic.{_↔_}
 use mathlib.Core.Option.{some}
-use mathlib.Core.List.{List}
-use Prim.Native.Nat.{ℕ, _+_, _≤_}
-use lib.Dec.{T}
-use lib.ListN.{length}
-use Rattle.characters.specs.Answers.{given, refused, every, IsFirst}
-use Rattle.characters.specs.Wire.{isSound}
-use Rattle.groups.specs.Modes.{modeOf}
+use mathlib.Core.List.{List, [], _∷_, _++_, map, List·Memᴰ}
+use Prim.Native.Nat.{ℕ, _+_, _≤_, _<_}
+use lib.Dec.{T, ltb}
+use lib.ListN.{length, getD}
+use Rattle.characters.specs.Answers.{given, every, firstOf}
+use Rattle.characters.specs.Wire.{isSound, wireByteOf}
+use Rattle.groups.specs.Modes.{modeOf, isMode}
+use Rattle.groups.specs.Kinds.{ofKind}
+use Rattle.groups.specs.Table.{Entry, rows}
+use Rattle.groups.specs.Stamps.{stampRight}
 use Rattle.groups.specs.Groups.{Group}
-use Rattle.groups.specs.Judging.{judging, shown, Shows}
-use Rattle.groups.specs.Writing.{onTheWire, offTheWire, composing, writing}
+use Rattle.groups.specs.Numbers.{numberOfRefusal, numberOf, numberOfWriting}
+use Rattle.groups.specs.Judging.{judging, shown, partOf, partStart, Shows}
+use Rattle.groups.specs.Writing.{onTheWire, offTheWire, composing, writing, told, left}
 use Rattle.groups.specs.Conditions.{givenWhen}
+use Rattle.groups.specs.WriterConditions.{writtenWhen, countDue, Leaves, bytesOf}
+use Rattle.groups.specs.Stretches.{sixNumbers, stretchesDue}
+use Rattle.groups.specs.Spelled.{among, spelled}
+use Rattle.groups.specs.RightStamps.{RightStamp}
 use Rattle.groups.specs.Right.{RightGroup}
-use Rattle.groups.specs.Laws.Shown.{shows}
+use Rattle.groups.specs.Listed.{page}
+use Rattle.groups.specs.Laws.Listed.{rows-as-listed}
+use Rattle.groups.specs.Laws.Stamps.{kinds-agree, stamps-agree}
+use Rattle.groups.specs.Laws.Unknown.{known-below}
+use Rattle.groups.specs.Laws.Shown.{shows, part-fits, part-unfit}
 use Rattle.groups.specs.Laws.ByNumber.{
   judged-composed,
   judged-right,
@@ -22,8 +34,21 @@ use Rattle.groups.specs.Laws.ByNumber.{
   written-back,
   accepted-written,
 }
+use Rattle.groups.specs.Laws.Stretches.{judged-stretches}
+use Rattle.groups.specs.Laws.OnTheWire.{on-bytes}
+use Rattle.groups.specs.Laws.Writer.{written-first}
+use Rattle.groups.specs.Laws.Written.{written-counted, written-left}
 use Rattle.groups.specs.declared.Mode.{Mode}
 use Rattle.groups.specs.declared.Refusal.{Refusal}
+use Rattle.groups.specs.declared.Verdict.the-variants as verdict
+use Rattle.groups.specs.declared.Outcome.the-variants as outcome
+use Rattle.groups.specs.declared.Stretch.{Stretch}
+use Rattle.groups.specs.declared.table.Kind.{Kind}
+use Rattle.groups.specs.declared.table.Mark.{Mark}
+
+-- The numbers of modes are 0 and 1.
+pub modes-exactly : (number : ℕ) → isMode number ≡ ltb number 2
+modes-exactly = known-below
 
 -- Demand 2: a content is accepted as a group exactly when writing that group makes that content.
 pub read-exactly-when-written : (number : ℕ) (c : List ℕ) (g : Group)
@@ -36,22 +61,72 @@ pub accepted-exactly : (number : ℕ) (c : List ℕ) (g : Group)
     → (judging number c ≡ given g) ↔ ((m : Mode) × (modeOf number ≡ some m) × RightGroup m c g)
 accepted-exactly = judged-right
 
--- A content is refused with this refusal exactly when, of document 01's conditions in their order, this refusal's is
--- the first that holds.
-pub refused-exactly : (number : ℕ) (c : List ℕ) (refusal : Refusal)
-    → (judging number c ≡ refused refusal) ↔ IsFirst refusal (givenWhen number c)
+-- The table of a mode has a label with a rule exactly when document 01's page lists it so.
+pub table-exactly : (m : Mode) (row : Entry) → List·Memᴰ row (rows m) ↔ List·Memᴰ row (page m)
+table-exactly = rows-as-listed
+
+-- A character passes the test of a kind exactly when it is one of those that are spelled out for the kind.
+pub kind-exactly : (kind : Kind) (c : ℕ) → T (ofKind kind c) ↔ T (among (spelled kind) c)
+kind-exactly = kinds-agree
+
+-- A stamp passes the tests of a mark exactly when it is written as a right stamp of that mark is.
+pub stamp-exactly : (mark : Mark) (s : List ℕ) → T (stampRight mark s) ↔ RightStamp mark s
+stamp-exactly = stamps-agree
+
+-- The number that judging tells is that of the first condition that holds, in document 01's order, and 1 where none does.
+pub refused-exactly : (number : ℕ) (c : List ℕ)
+    → numberOf (shown (judging number c) .verdict) ≡ firstOf 1 (givenWhen number c)
 refused-exactly = judged-first
+
+-- The number that writing tells is that of the first condition that holds, in the writer's order, and 0 where none does.
+pub writer-refused-exactly : (number : ℕ) (g : Group) (room : ℕ)
+    → numberOfWriting (told (writing number g room) .outcome) ≡ firstOf 0 (writtenWhen number g room)
+writer-refused-exactly = written-first
+
+-- A refusal has one number, whether judging or writing tells it.
+pub numbers-exactly : (refusal : Refusal)
+    → (numberOf (verdict.Refused refusal) ≡ numberOfRefusal refusal)
+    × (numberOfWriting (outcome.Refused refusal) ≡ numberOfRefusal refusal)
+numbers-exactly refusal = (refl, refl)
 
 -- The stretches that judging shows of an accepted content are its label, its stamp and its data.
 pub fields-shown : (number : ℕ) (c : List ℕ) (g : Group) → judging number c ≡ given g
     → Shows c (shown (judging number c)) g
 fields-shown = shows
 
+-- They stand where the places of the content say; of a refused content there are three empty ones.
+pub stretches-exactly : (number : ℕ) (c : List ℕ) → sixNumbers (shown (judging number c)) ≡ stretchesDue number c
+stretches-exactly = judged-stretches
+
+-- The part that a stretch names begins where the stretch begins and has its bytes; where it does not fit, it is the empty
+-- part at the start.
+pub part-exactly : (s : Stretch) (c : List ℕ) → s .start + s .length ≤ length c
+    → (length (partOf s c) ≡ s .length) × (partStart s c ≡ s .start)
+    × ((i : ℕ) → i < s .length → getD (partOf s c) i 0 ≡ getD c (s .start + i) 0)
+part-exactly = part-fits
+
+pub empty-part-exactly : (s : Stretch) (c : List ℕ) → length c < s .start + s .length
+    → (partOf s c ≡ []) × (partStart s c ≡ 0)
+empty-part-exactly = part-unfit
+
 -- The bytes that are written are sound, and they are LF, a content and CR on the wire; this content is accepted as the
 -- group that was to be written.
 pub written-reads-back : (number : ℕ) (g : Group) (room : ℕ) (w : List ℕ) → writing number g room ≡ given w
     → (judging number (offTheWire w) ≡ given g) × (w ≡ onTheWire (offTheWire w)) × T (every isSound w)
 written-reads-back = written-back
+
+-- The count that writing tells is that of the bytes for which room was asked, and 0 where it refuses.
+pub count-exactly : (number : ℕ) (g : Group) (room : ℕ) → told (writing number g room) .count ≡ countDue number g room
+count-exactly = written-counted
+
+-- A buffer begins with the bytes that are written, and the rest is unchanged; where writing refuses, all of it is.
+pub buffer-exactly : (number : ℕ) (g : Group) (buffer : List ℕ)
+    → Leaves (bytesOf (writing number g (length buffer))) buffer (left (writing number g (length buffer)) buffer)
+buffer-exactly = written-left
+
+-- What goes on the wire begins with the wire byte of LF and ends with that of CR.
+pub wire-exactly : (c : List ℕ) → onTheWire c ≡ 0x0A ∷ (map wireByteOf c ++ 0x8D ∷ [])
+wire-exactly = on-bytes
 
 -- A content that is accepted is what writing its fields puts on the wire, where there is room for it, LF and CR.
 pub accepted-is-written : (number : ℕ) (c : List ℕ) (g : Group) (room : ℕ) → judging number c ≡ given g

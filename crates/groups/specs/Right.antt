@@ -1,22 +1,31 @@
 -- What a right group is, in document 01's own terms. Nothing here says how a reader or a writer works.
 use mathlib.Core.Path.{_≡_}
-use mathlib.Core.Bool.{Bool, true, false}
 use mathlib.Core.List.{List, [], _∷_, _++_, List·Memᴰ}
 use Prim.Native.Nat.{ℕ, _+_, _%_, _<_}
 use lib.Dec.{T}
 use lib.ListN.{length, getD}
-use Rattle.groups.specs.Modes.{separator, countedAtEnd}
-use Rattle.groups.specs.Kinds.{ofKind}
-use Rattle.groups.specs.Table.{Entry, rows}
-use Rattle.groups.specs.Stamps.{isStamped, stampRight}
+use Rattle.characters.specs.Wire.{HT}
+use Rattle.groups.specs.Modes.{separator}
+use Rattle.groups.specs.Table.{rows}
 use Rattle.groups.specs.Groups.{Group, total}
+use Rattle.groups.specs.Spelled.{among, spelled}
+use Rattle.groups.specs.RightStamps.{RightStamp}
 use Rattle.groups.specs.declared.Mode.{Mode}
+use Rattle.groups.specs.declared.Mode.the-variants.{Historic, Standard}
+use Rattle.groups.specs.declared.table.Mark.{Mark}
+use Rattle.groups.specs.declared.table.Mark.the-variants.{Unstamped, Letter, Space}
 use Rattle.groups.specs.declared.table.Rule.{Rule}
 
 -- a group's fields with the separators between them: all that stands before the final separator
-abbrev pub parted : Mode → Bool → Group → List ℕ
-parted m false g = g .label ++ separator m ∷ g .«data»
-parted m true g = g .label ++ separator m ∷ (g .stamp ++ separator m ∷ g .«data»)
+abbrev pub parted : Mode → Mark → Group → List ℕ
+parted m Unstamped g = g .label ++ separator m ∷ g .«data»
+parted m Letter g = g .label ++ separator m ∷ (g .stamp ++ separator m ∷ g .«data»)
+parted m Space g = g .label ++ separator m ∷ (g .stamp ++ separator m ∷ g .«data»)
+
+-- what is counted of it: "Historic: .. the final separator is not counted. Standard: it is counted too"
+abbrev pub counted : Mode → List ℕ → List ℕ
+counted Historic front = front
+counted Standard front = front ++ HT ∷ []
 
 -- the content c is that of a right group with the fields g
 pub record RightGroup (m : Mode) (c : List ℕ) (g : Group) : Type 0 where
@@ -25,11 +34,11 @@ pub record RightGroup (m : Mode) (c : List ℕ) (g : Group) : Type 0 where
   -- "label not in the mode's list" is not so: the list has it, with this rule
   pub listed : List·Memᴰ (record { label = g .label; rule = rule }) (rows m)
   -- "The last character is the check character, the one before it must be a separator."
-  pub separated : c ≡ parted m (isStamped (rule .mark)) g ++ separator m ∷ checkCharacter ∷ []
+  pub separated : c ≡ parted m (rule .mark) g ++ separator m ∷ checkCharacter ∷ []
   -- "add the character codes, take the remainder by 64, add 32"
-  pub check-right : checkCharacter ≡ (total (parted m (isStamped (rule .mark)) g) + countedAtEnd m) % 64 + 32
+  pub check-right : checkCharacter ≡ total (counted m (parted m (rule .mark) g)) % 64 + 32
   -- the stamp is right, or absent where the label has none
-  pub stamp-right : T (stampRight (rule .mark) (g .stamp))
+  pub stamp-right : RightStamp (rule .mark) (g .stamp)
   -- the data are of the width, and each of their characters is of the kind
   pub width-right : length (g .«data») ≡ rule .width
-  pub kind-right : (i : ℕ) → i < length (g .«data») → T (ofKind (rule .kind) (getD (g .«data») i 0))
+  pub kind-right : (i : ℕ) → i < length (g .«data») → T (among (spelled (rule .kind)) (getD (g .«data») i 0))

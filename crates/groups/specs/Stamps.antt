@@ -15,21 +15,58 @@ use Rattle.groups.specs.declared.table.Mark.the-variants.{Unstamped, Let
 abbrev pub twoDigits : List ℕ → ℕ → ℕ
 twoDigits s i = (getD s i 0 - 0x30) * 10 + (getD s (i + 1) 0 - 0x30)
 
+-- "YYMMDDhhmmss", behind the season
+abbrev pub yearOf : List ℕ → ℕ
+yearOf s = twoDigits s 1
+
+abbrev pub monthOf : List ℕ → ℕ
+monthOf s = twoDigits s 3
+
+abbrev pub dayOf : List ℕ → ℕ
+dayOf s = twoDigits s 5
+
+abbrev pub hourOf : List ℕ → ℕ
+hourOf s = twoDigits s 7
+
+abbrev pub minuteOf : List ℕ → ℕ
+minuteOf s = twoDigits s 9
+
+abbrev pub secondOf : List ℕ → ℕ
+secondOf s = twoDigits s 11
+
+-- "Month 01 to 12"
+abbrev pub monthRight : ℕ → Bool
+monthRight month = within 1 12 month
+
 -- "day within that month, February having 29 days when YY divides by 4"
 unfoldable pub daysIn : ℕ → ℕ → ℕ
 daysIn year month =
     pick (eqb month 2) (pick (eqb (year % 4) 0) 29 28)
     (pick (eqb month 4 || eqb month 6 || eqb month 9 || eqb month 11) 30 31)
 
--- "Month 01 to 12; day within that month ..; hour 00 to 23; minute and second 00 to 59"; all twelve are digits
+abbrev pub dayRight : ℕ → ℕ → ℕ → Bool
+dayRight year month day = within 1 (daysIn year month) day
+
+-- "hour 00 to 23"
+abbrev pub hourRight : ℕ → Bool
+hourRight hour = within 0 23 hour
+
+-- "minute and second 00 to 59"
+abbrev pub minuteRight : ℕ → Bool
+minuteRight minute = within 0 59 minute
+
+abbrev pub secondRight : ℕ → Bool
+secondRight second = within 0 59 second
+
+-- the twelve characters behind the season are digits, and write a day and a time
 unfoldable pub dateRight : List ℕ → Bool
 dateRight s =
     every (ofKind Digits) (drop 1 s)
-    && within 1 12 (twoDigits s 3)
-    && within 1 (daysIn (twoDigits s 1) (twoDigits s 3)) (twoDigits s 5)
-    && within 0 23 (twoDigits s 7)
-    && within 0 59 (twoDigits s 9)
-    && within 0 59 (twoDigits s 11)
+    && monthRight (monthOf s)
+    && dayRight (yearOf s) (monthOf s) (dayOf s)
+    && hourRight (hourOf s)
+    && minuteRight (minuteOf s)
+    && secondRight (secondOf s)
 
 -- "The season is H or E; for DPM1 to DPM3 and FPM1 to FPM3 it is SP and nothing else" (H is 0x48, E is 0x45)
 abbrev pub seasonRight : Mark → ℕ → Bool

@@ -1,12 +1,11 @@
 -- The labels of each mode (document 01, "One group": "Standard mode, 71 labels", "Historic mode, 34 labels"), in the
 -- order of their bytes: label, kind and width as on the page; `stamped` is its *, and `spaceStamped` are the six labels
 -- whose season is a space.
-use mathlib.Core.Path.{_≡_, refl}
 use mathlib.Core.Bool.{Bool, true, false, _&&_}
 use mathlib.Core.Option.{Option, none, some}
 use mathlib.Core.List.{List, [], _∷_}
 use Prim.Native.Nat.{ℕ}
-use Prim.Native.Char.{Char, code}
+use Prim.Native.Char.{code}
 use Prim.Native.String.{String, [] as end, _∷_ as _then_}
 use lib.Dec.{eqb}
 use Rattle.characters.specs.Answers.{pick}

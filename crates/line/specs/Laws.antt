@@ -8,3 +8,8 @@ pub mod Until
 pub mod Openings
 pub mod Heard
 pub mod Accepted
+pub mod LookingBack
+pub mod GroupsByBytes
+pub mod ByBytes
+pub mod AcceptedByBytes
+pub mod SoundByBytes

@@ -1,9 +1,10 @@
 -- Document 01's numbers ("Numbers") for what a line tells.
-use mathlib.Core.List.{List}
+use mathlib.Core.Option.{Option, none, some}
 use Prim.Native.Nat.{ℕ}
 use Rattle.characters.specs.Answers.{refused, given}
 use Rattle.groups.specs.Numbers.{numberOfRefusal}
 use Rattle.line.specs.Lines.{LineAnswer}
+use Rattle.line.specs.Entries.{Entry, accepted, only}
 use Rattle.line.specs.declared.Notice.{Notice}
 use Rattle.line.specs.declared.Notice.the-variants.{
   FrameSound,
@@ -32,6 +33,15 @@ numberOfNotice (GroupRefused refusal) = numberOfRefusal refusal
 abbrev pub numberOfAnswer : LineAnswer → ℕ
 numberOfAnswer (given g) = 1
 numberOfAnswer (refused notice) = numberOfNotice notice
+
+-- an answer with its number, as a sheet shows it
+abbrev pub shown : LineAnswer → Entry
+shown (given g) = accepted g
+shown (refused notice) = only (numberOfNotice notice)
+
+abbrev pub shownIf : Option LineAnswer → Option Entry
+shownIf none = none
+shownIf (some a) = some (shown a)
 
 -- what the code heard; 0 stands for no answer, which document 01 gives no number (its 0 is for calls)
 abbrev pub numberOf : Heard → ℕ

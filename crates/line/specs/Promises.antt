@@ -1,31 +1,50 @@
 -- What the crate promises of one line: only the statements need to be read.
 use mathlib.Core.Path.{_≡_}
 use mathlib.Core.Logic.{_↔_}
-use mathlib.Core.Bool.{Bool, true, false, _||_}
-use mathlib.Core.Option.{some}
-use mathlib.Core.List.{List, [], _∷_, _++_}
-use Prim.Native.Nat.{ℕ}
+use mathlib.Core.Bool.{Bool, true, false, not, _||_}
+use mathlib.Core.Option.{none, some}
+use mathlib.Core.List.{List, [], _∷_, _++_, map}
+use Prim.Native.Nat.{ℕ, _<_}
 use lib.Dec.{T}
 use lib.ListN.{length}
 use Rattle.characters.specs.Answers.{given, refused, every, pick}
-use Rattle.characters.specs.Wire.{isSound}
+use Rattle.characters.specs.Wire.{isSound, CR, ETX}
 use Rattle.groups.specs.Kinds.{within}
-use Rattle.groups.specs.Modes.{isMode}
+use Rattle.groups.specs.Modes.{modeOf, isMode}
 use Rattle.groups.specs.Groups.{Group}
 use Rattle.groups.specs.Writing.{writing}
+use Rattle.groups.specs.declared.Mode.{Mode}
 use Rattle.line.specs.Symbols.{symbolOf}
-use Rattle.line.specs.Lines.{State, isRefused, step, after, answers, inFrame}
+use Rattle.line.specs.Lines.{LineAnswer, State, isRefused, step, after, answers, outside, inFrame, untilAnswer}
 use Rattle.line.specs.Between.{noControl, noStx, groupAnswer, SoundFrame}
-use Rattle.line.specs.Numbers.{numberOfAnswer, numberOfOpening}
+use Rattle.line.specs.Entries.{accepted, only, numberIn}
+use Rattle.line.specs.ByBytes.{
+  is,
+  openFrame,
+  openGroup,
+  groupDue,
+  answerDue,
+  answersDue,
+  upToAnswer,
+  EndsInRightGroup,
+  RightFrame,
+}
+use Rattle.line.specs.Numbers.{numberOfAnswer, shown, shownIf, numberOf, numberOfOpening}
 use Rattle.line.specs.State.{lineOf, openingOf}
-use Rattle.line.specs.Steps.{fed}
+use Rattle.line.specs.Steps.{heardAnswer, fed}
 use Rattle.line.specs.Views.{FedView, fed-view}
 use Rattle.line.specs.Laws.Bytes.{after-append, answers-append, unsound-damaged}
 use Rattle.line.specs.Laws.Groups.{group-answered, group-ends}
 use Rattle.line.specs.Laws.Written.{written-sent}
 use Rattle.line.specs.Laws.Frames.{stx-restarts, frame-sound}
-use Rattle.line.specs.Laws.Numbers.{all-numbered, opening-numbered}
+use Rattle.line.specs.Laws.ByBytes as by-bytes
+use Rattle.line.specs.Laws.GroupsByBytes as group-laws
+use Rattle.line.specs.Laws.AcceptedByBytes as accepted-laws
+use Rattle.line.specs.Laws.SoundByBytes as sound-laws
+use Rattle.line.specs.Laws.Numbers as numbers
 use Rattle.line.specs.declared.LineState.{LineState}
+use Rattle.line.specs.declared.Opening.the-variants.{Opened}
+use Rattle.line.specs.declared.Heard.{Heard}
 use Rattle.line.specs.declared.Notice.the-variants.{FrameSound}
 use Rattle.line.specs.declared.rules.Symbol.the-variants.{Stx, Etx, Lf, Cr, Damaged}
 
@@ -53,18 +72,77 @@ written-in-frame = written-sent
 
 -- An opening is 0 exactly for a known mode, and 19 for every other number.
 pub opening-number : (mode : ℕ) → numberOfOpening (openingOf mode) ≡ pick (isMode mode) 0 19
-opening-number = opening-numbered
+opening-number = numbers.opening-numbered
+
+-- A line that is opened is outside, in the mode that was asked for.
+pub opened-outside : (mode : ℕ) (l : LineState) (content : List ℕ) → openingOf mode ≡ Opened l
+    → (lineOf l content ≡ outside) × (l .mode ≡ mode)
+opened-outside = numbers.opened-outside
+
+-- An answer has one number: alone, with its fields as a sheet shows it, and as the code heard it, 0 where it heard none.
+pub answer-number : (a : LineAnswer) → numberOfAnswer a ≡ shown a .number
+answer-number = numbers.answer-shown
+
+pub heard-number : (h : Heard) (content : List ℕ) → numberOf h ≡ numberIn (shownIf (heardAnswer h content))
+heard-number = numbers.heard-number
 
 -- On a line of a known mode, wherever it is and whatever bytes come, every answer has a number of 1 to 14.
 pub answer-numbers : (mode : ℕ) → isMode mode ≡ true → (s : State) (bs : List ℕ)
     → T (every (λ a. within 1 14 (numberOfAnswer a)) (answers mode s bs))
-answer-numbers = all-numbered
+answer-numbers = numbers.all-numbered
 
 -- In a frame that has just begun, after bytes without STX, an ETX is answered by "frame sound" exactly when these bytes
 -- are accepted groups, one behind the other.
 pub frame-sound-exactly : (mode : ℕ) (bs : List ℕ) (etx : ℕ) → T (noStx bs) → symbolOf etx ≡ Etx
     → (step mode (after mode (inFrame false) bs) etx .answer ≡ some (refused FrameSound)) ↔ SoundFrame mode bs
 frame-sound-exactly = frame-sound
+
+-- In every mode, after any bytes since the opening, the next byte's answer, with its number, is the one that is due by the
+-- bytes alone (`ByBytes.antt`).
+pub answer-by-bytes : (mode : ℕ) (m : Mode) → modeOf mode ≡ some m → (before : List ℕ) (b : ℕ)
+    → shownIf (step mode (after mode outside before) b .answer) ≡ answerDue m before b
+answer-by-bytes = by-bytes.answer-by-bytes
+
+-- So are all answers to bytes that follow, one after the other.
+pub answers-by-bytes : (mode : ℕ) (m : Mode) → modeOf mode ≡ some m → (before bs : List ℕ)
+    → map shown (answers mode (after mode outside before) bs) ≡ answersDue m before bs
+answers-by-bytes = by-bytes.answers-behind
+
+-- From the opening on too.
+pub opened-by-bytes : (mode : ℕ) (m : Mode) → modeOf mode ≡ some m → (bs : List ℕ)
+    → map shown (answers mode outside bs) ≡ answersDue m [] bs
+opened-by-bytes = by-bytes.all-by-bytes
+
+-- And so is the count of bytes up to and including the first that gives an answer.
+pub count-by-bytes : (mode : ℕ) (m : Mode) → modeOf mode ≡ some m → (before bs : List ℕ)
+    → untilAnswer mode (after mode outside before) bs ≡ upToAnswer m before bs
+count-by-bytes = by-bytes.until-by-bytes
+
+-- The answer is an accepted group exactly at a sound CR that ends a group of an open frame whose bytes are all sound and whose
+-- characters are a right group with these fields.
+pub accepted-by-bytes : (m : Mode) (before : List ℕ) (b : ℕ) (g : Group)
+    → (answerDue m before b ≡ some (accepted g)) ↔ (T (is CR b) × EndsInRightGroup m before g)
+accepted-by-bytes = accepted-laws.accepted-by-bytes
+
+-- A group is answered by 7 exactly when one of its bytes is unsound, and by 8 exactly when none is and more than 128 came.
+pub damaged-exactly : (m : Mode) (bs : List ℕ) → (groupDue m bs .number ≡ 7) ↔ T (not (every isSound bs))
+damaged-exactly = group-laws.damaged-exactly
+
+pub too-long-exactly : (m : Mode) (bs : List ℕ)
+    → (groupDue m bs .number ≡ 8) ↔ (T (every isSound bs) × (128 < length bs))
+too-long-exactly = group-laws.too-long-exactly
+
+-- In an open frame an ETX is answered by 2 exactly when the bytes since the STX are right groups, all of sound bytes, one
+-- behind the other.
+pub sound-by-bytes : (m : Mode) (before since : List ℕ) (etx : ℕ) → openFrame before ≡ some since → T (is ETX etx)
+    → (answerDue m before etx ≡ some (only 2)) ↔ RightFrame m since
+sound-by-bytes = sound-laws.sound-by-bytes
+
+-- What the writer makes of a group, sent in an open frame with no group open, is answered by exactly this group.
+pub written-by-bytes : (mode : ℕ) (m : Mode) → modeOf mode ≡ some m → (g : Group) (room : ℕ) (w : List ℕ)
+    → writing mode g room ≡ given w → (before since : List ℕ) → openFrame before ≡ some since
+    → openGroup since ≡ none → answersDue m before w ≡ accepted g ∷ []
+written-by-bytes = by-bytes.written-by-bytes
 
 -- Wherever a line is, an STX puts it into a frame without a flaw.
 pub stx-restarts-any : (mode : ℕ) (s : State) (b : ℕ) → symbolOf b ≡ Stx → step mode s b .state ≡ inFrame false

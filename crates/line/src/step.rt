@@ -59,9 +59,9 @@ fn ended(mode: u8, flaw: bool, heard: Heard) -> Reaction
             line: state::state_of(mode, Phase::Frame(flaw), 0),
             heard: Heard::Accepted(fields),
         },
-        Heard::Told(notice) => Reaction {
+        Heard::Told(why) => Reaction {
             line: state::state_of(mode, Phase::Frame(true), 0),
-            heard: Heard::Told(notice),
+            heard: Heard::Told(why),
         },
         Heard::Nothing => Reaction {
             line: state::state_of(mode, Phase::Frame(true), 0),

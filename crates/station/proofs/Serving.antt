@@ -8,12 +8,13 @@ use lib.ListN.{length, take, drop, getD, set, replicate, length-append, take-app
 use lib.Seq.{paste, paste-zero, set-at, set-getD, getD-at, getD-set-other, append-snoc, length-take-le}
 use Rattle.line.specs.Steps.{heardAnswer}
 use Rattle.line.specs.Views.{FieldsInside}
+use Rattle.line.specs.Numbers.{shownIf}
 use Rattle.line.specs.Laws.Heard.{heard-nothing, heard-told, heard-accepted}
 use Rattle.line.specs.declared.Heard.{Heard}
 use Rattle.line.specs.declared.Heard.the-variants as heard
 use Rattle.station.specs.Lines.{over, turning}
 use Rattle.station.specs.Stations.{zeroLine}
-use Rattle.station.specs.Sheets.{Told, shownIf, entryOf, offsetOf, twoBytes, offsets, joined, entries}
+use Rattle.station.specs.Sheets.{Told, entryOf, offsetOf, twoBytes, offsets, joined, entries}
 use Rattle.station.specs.Rounds.{tells}
 use Rattle.station.specs.Parts.{entryHeard, offsetHeard, toldBy, ServesLines}
 use Rattle.station.specs.Laws.Views.{Long, Longs, no-lines, one-line, turn-view, turn-short}

@@ -14,7 +14,7 @@ use Rattle.line.specs.Steps.{fed}
 use Rattle.line.specs.Views.{fed-view, until-most}
 use Rattle.line.specs.declared.Taken.{Taken}
 use Rattle.line.specs.declared.Heard.the-variants.{Nothing}
-use Rattle.station.specs.Lines.{waiting, turning}
+use Rattle.station.specs.Lines.{waiting, mostInTurn, turning}
 use Rattle.station.specs.Parts.{Waits, endOf, Turns}
 use Rattle.station.specs.Laws.Views.{Long}
 use Rattle.station.specs.Records.{StationLine}
@@ -34,31 +34,31 @@ module _ (l : StationLine) (long : Long l) (from to : ℕ) (w : Waits l from to)
   pub end-places : (from ≤ end) × (end ≤ to)
   unfolding endOf pick
   end-places =
-      split (to - from) 64
-      (λ k. rw (h, le-ltb 64 (to - from) k) (w .order, omega arith))
-      (λ k. rw (h, lt-ltb 64 (to - from) k) (omega arith, omega arith))
+      split (to - from) mostInTurn
+      (λ k. rw (h, le-ltb mostInTurn (to - from) k) (w .order, omega arith))
+      (λ k. rw (h, lt-ltb mostInTurn (to - from) k) (omega arith, omega arith))
 
   -- the bytes up to it are the oldest 64 of those that wait
-  pub turn-bytes : take (end - from) (drop from (l .inbox)) ≡ take 64 (waiting l)
+  pub turn-bytes : take (end - from) (drop from (l .inbox)) ≡ take mostInTurn (waiting l)
   unfolding endOf pick
   turn-bytes =
-      split (to - from) 64
-      (λ k. rw (h, le-ltb 64 (to - from) k) (w .part ∙ sym (take-all 64 (waiting l) (omega (arith, w .count)))))
+      split (to - from) mostInTurn
+      (λ k. rw (h, le-ltb mostInTurn (to - from) k) (w .part ∙ sym (take-all mostInTurn (waiting l) (omega (arith, w .count)))))
       (λ k.
-      let z : from + 64 - from ≡ 64 = omega arith in
-      let v : take 64 (take (to - from) (drop from (l .inbox))) ≡ take 64 (drop from (l .inbox)) =
-      take-take 64 (to - from) (drop from (l .inbox)) (omega arith) in
-      rw (h, lt-ltb 64 (to - from) k, z) (sym v ∙ ap (take 64) (w .part)))
+      let z : from + mostInTurn - from ≡ mostInTurn = omega arith in
+      let v : take mostInTurn (take (to - from) (drop from (l .inbox))) ≡ take mostInTurn (drop from (l .inbox)) =
+      take-take mostInTurn (to - from) (drop from (l .inbox)) (omega arith) in
+      rw (h, lt-ltb mostInTurn (to - from) k, z) (sym v ∙ ap (take mostInTurn) (w .part)))
 
   module _ (t : Taken) (x : t ≡ fed 0 (l .state) (l .content) (take (end - from) (drop from (l .inbox))) .result) where
     -- no more bytes were taken than 64, or than wait
-    pub took-few : (t .count ≤ 64) × (t .count ≤ to - from)
+    pub took-few : (t .count ≤ mostInTurn) × (t .count ≤ to - from)
     took-few =
         let bs = take (end - from) (drop from (l .inbox)) in
         let v = fed-view 0 (l .state) (l .content) bs (long .content) in
         let m = until-most (l .state .mode) (lineOf (l .state) (l .content)) bs in
-        let n : length bs ≡ length (take 64 (waiting l)) = ap length turn-bytes in
-        let k = length-take 64 (waiting l) in
+        let n : length bs ≡ length (take mostInTurn (waiting l)) = ap length turn-bytes in
+        let k = length-take mostInTurn (waiting l) in
         rw x (omega (arith, v .count-is, w .count), omega (arith, v .count-is, w .count))
 
     pub turn-open : (l .opened ≡ 0 → ⊥) → (content : List ℕ)

@@ -1,34 +1,43 @@
--- The three demands, and nothing but their statements. `History.antt` says what a call is, what its caller gets, and
--- what the callers know of a line (its account, read off the numbers and the bytes of the lent sheets); a call does
--- what the code's contracts say of it. Every statement is of any list of calls, refused ones among them, from the
--- station with all lines closed, or of any station at all.
+-- The three demands, and nothing but their statements, in terms of bytes, right groups and what the callers saw. `next` and
+-- `gets` are what a call does and what its caller gets: the contracts of the code cite them, so nothing of what they say has
+-- to be believed. `History.antt` has what the callers know of a line (its account, read off the numbers and the bytes of the
+-- lent sheets), `Due.antt` what a call is owed by it. Every statement is of any list of calls, refused ones among them, from
+-- the station with all lines closed, or of any station at all.
 use mathlib.Core.Path.{_≡_}
 use mathlib.Core.Logic.{_≢_, _↔_}
-use mathlib.Core.Bool.{Bool, true, false}
+use mathlib.Core.Bool.{not}
 use mathlib.Core.Option.{none, some}
-use mathlib.Core.List.{List, [], _∷_, _++_, map}
+use mathlib.Core.List.{List, [], _∷_, _++_}
 use Prim.Native.Nat.{ℕ, _+_, _/_, _≤_, _<_}
 use lib.Dec.{T}
-use lib.ListN.{length, take, drop, getD}
-use Rattle.characters.specs.Answers.{given}
-use Rattle.groups.specs.Modes.{modeOf, isMode}
+use lib.ListN.{length, take, drop}
+use Rattle.characters.specs.Answers.{given, every, firstOf}
+use Rattle.characters.specs.Wire.{isSound, ETX, CR}
+use Rattle.groups.specs.Modes.{modeOf}
 use Rattle.groups.specs.Groups.{Group}
-use Rattle.groups.specs.Judging.{judging}
-use Rattle.groups.specs.Writing.{composing}
+use Rattle.groups.specs.Judging.{judging, shown}
+use Rattle.groups.specs.Writing.{onTheWire, offTheWire, writing, told}
+use Rattle.groups.specs.Conditions.{givenWhen}
+use Rattle.groups.specs.WriterConditions.{writtenWhen}
+use Rattle.groups.specs.Numbers.{numberOf, numberOfWriting}
 use Rattle.groups.specs.Right.{RightGroup}
 use Rattle.groups.specs.Promises as groups
 use Rattle.groups.specs.declared.Mode.{Mode}
-use Rattle.line.specs.Symbols.{symbolOf}
-use Rattle.line.specs.Lines.{outside, inFrame, after, answers}
-use Rattle.line.specs.Between.{noControl, anyDamaged, textOf, groupAnswer}
-use Rattle.line.specs.Laws.Groups as line
-use Rattle.line.specs.Laws.Accepted as accepted
-use Rattle.line.specs.declared.rules.Symbol.the-variants.{Lf, Cr}
-use Rattle.station.specs.Lines.{waiting}
-use Rattle.station.specs.Stations.{allClosed, lineAt}
-use Rattle.station.specs.Sheets.{shown, idle, smallestSheet, sheetOf}
-use Rattle.station.specs.Rounds.{toldOf}
-use Rattle.station.specs.Reading.{readTurn}
+use Rattle.line.specs.Entries.{accepted, only}
+use Rattle.line.specs.ByBytes.{
+  is,
+  openFrame,
+  openGroup,
+  groupDue,
+  answerDue,
+  answersDue,
+  EndsInRightGroup,
+  RightFrame,
+}
+use Rattle.line.specs.Promises as line
+use Rattle.station.specs.Stations.{allClosed}
+use Rattle.station.specs.Sheets.{sheetOf}
+use Rattle.station.specs.Reading.{readTurn, turnsRead}
 use Rattle.station.specs.History.{
   Call,
   opens,
@@ -42,11 +51,12 @@ use Rattle.station.specs.History.{
   afresh,
   accountOf,
   bytesTaken,
+  bytesWaiting,
   turnsAmong,
   staysOpen,
   takenIn,
 }
-use Rattle.station.specs.Due.{numbersOf, isAmong, numberDue, lentBy, noCounts}
+use Rattle.station.specs.Due.{numbersOf, isAmong, numberDue, lentBy, noCounts, turnDue}
 use Rattle.station.specs.Laws.Numbers as numbers
 use Rattle.station.specs.Laws.Accounts as accounts
 use Rattle.station.specs.Laws.Rounds as rounds
@@ -73,25 +83,60 @@ pub refused-left-out : (s : Station) (cs ds : List Call) (c : Call) → gets (ru
     → run s (cs ++ c ∷ ds) ≡ run s (cs ++ ds)
 refused-left-out = numbers.refused-left-out
 
--- ---- Demand 2: accepted exactly when it fits its mode
+-- ---- Demand 2: accepted exactly when it fits its mode, and the writer makes exactly those groups
 
--- In a frame an LF, bytes that are no sound control characters, and a CR have one answer, that of a group of these
--- bytes.
-pub answered-in-frame : (mode : ℕ) (flaw : Bool) (lf cr : ℕ) (bs : List ℕ) → symbolOf lf ≡ Lf → symbolOf cr ≡ Cr
-    → T (noControl bs) → answers mode (inFrame flaw) (lf ∷ (bs ++ cr ∷ [])) ≡ groupAnswer mode bs ∷ []
-answered-in-frame = line.group-answered
+-- On a line, after any bytes since its opening, the next byte is answered by an accepted group exactly when it is a sound
+-- CR that ends a group of an open frame whose bytes are all sound and whose characters are a right group with these fields.
+-- (`answers-right` below says that the line's answers are those of `answerDue`.)
+pub accepted-on-a-line : (m : Mode) (before : List ℕ) (b : ℕ) (g : Group)
+    → (answerDue m before b ≡ some (accepted g)) ↔ (T (is CR b) × EndsInRightGroup m before g)
+accepted-on-a-line = line.accepted-by-bytes
 
--- It is accepted exactly when none of the bytes came with wrong parity and their characters are, in the mode of the
--- line, those of a right group.
-pub accepted-exactly : (mode : ℕ) (bs : List ℕ) (g : Group)
-    → (groupAnswer mode bs ≡ given g)
-    ↔ ((anyDamaged bs ≡ false) × (m : Mode) × (modeOf mode ≡ some m) × RightGroup m (textOf bs) g)
-accepted-exactly = accepted.accepted-exactly
+-- A group on a line is answered by 7 exactly when one of its bytes is unsound, and by 8 exactly when none is and more than
+-- 128 came.
+pub damaged-exactly : (m : Mode) (bs : List ℕ) → (groupDue m bs .number ≡ 7) ↔ T (not (every isSound bs))
+damaged-exactly = line.damaged-exactly
 
--- The reader gives these fields exactly when the writer makes this content from them.
-pub read-exactly-when-written : (mode : ℕ) (c : List ℕ) (g : Group)
-    → (judging mode c ≡ given g) ↔ (composing mode g ≡ given c)
-read-exactly-when-written = groups.read-exactly-when-written
+pub too-long-exactly : (m : Mode) (bs : List ℕ)
+    → (groupDue m bs .number ≡ 8) ↔ (T (every isSound bs) × (128 < length bs))
+too-long-exactly = line.too-long-exactly
+
+-- In an open frame ETX is answered by 2 exactly when the bytes since the STX are right groups, all of sound bytes, one
+-- behind the other.
+pub frame-sound-exactly : (m : Mode) (before since : List ℕ) (etx : ℕ) → openFrame before ≡ some since → T (is ETX etx)
+    → (answerDue m before etx ≡ some (only 2)) ↔ RightFrame m since
+frame-sound-exactly = line.sound-by-bytes
+
+-- A group given alone is accepted with these fields exactly when the number is that of a mode, and the content is that of a
+-- right group of this mode with these fields.
+pub accepted-exactly : (mode : ℕ) (c : List ℕ) (g : Group)
+    → (judging mode c ≡ given g) ↔ ((m : Mode) × (modeOf mode ≡ some m) × RightGroup m c g)
+accepted-exactly = groups.accepted-exactly
+
+-- Its number is that of the first of document 01's conditions that holds, in their order, and 1 where none does.
+pub refused-exactly : (mode : ℕ) (c : List ℕ) → numberOf (shown (judging mode c) .verdict) ≡ firstOf 1 (givenWhen mode c)
+refused-exactly = groups.refused-exactly
+
+-- What is written is sound bytes: LF, a content and CR; this content is accepted as the group that was to be written.
+pub written-reads-back : (mode : ℕ) (g : Group) (room : ℕ) (w : List ℕ) → writing mode g room ≡ given w
+    → (judging mode (offTheWire w) ≡ given g) × (w ≡ onTheWire (offTheWire w)) × T (every isSound w)
+written-reads-back = groups.written-reads-back
+
+-- What is accepted is what writing its fields makes, where there is room for it, LF and CR.
+pub accepted-is-written : (mode : ℕ) (c : List ℕ) (g : Group) (room : ℕ) → judging mode c ≡ given g
+    → length c + 2 ≤ room → writing mode g room ≡ given (onTheWire c)
+accepted-is-written = groups.accepted-is-written
+
+-- What is written is accepted on a line of the mode, in an open frame with no group open: its only answer is the group.
+pub written-on-a-line : (mode : ℕ) (m : Mode) → modeOf mode ≡ some m → (g : Group) (room : ℕ) (w : List ℕ)
+    → writing mode g room ≡ given w → (before since : List ℕ) → openFrame before ≡ some since
+    → openGroup since ≡ none → answersDue m before w ≡ accepted g ∷ []
+written-on-a-line = line.written-by-bytes
+
+-- A writing's number is that of the first of document 01's conditions that holds, in their order, and 0 where none does.
+pub writer-refused-exactly : (mode : ℕ) (g : Group) (room : ℕ)
+    → numberOfWriting (told (writing mode g room) .outcome) ≡ firstOf 0 (writtenWhen mode g room)
+writer-refused-exactly = groups.writer-refused-exactly
 
 -- ---- Demand 3: bytes in order, none lost or twice; answers by the line's own bytes; in time
 
@@ -99,31 +144,25 @@ read-exactly-when-written = groups.read-exactly-when-written
 pub not-opened : (i : ℕ) (cs : List Call) → i < 8 → accountOf i cs .mode ≡ none → accountOf i cs ≡ never
 not-opened = accounts.not-opened
 
--- A line since its last opening: the bytes accepted are the bytes taken followed by the bytes waiting.
-pub none-lost : (i : ℕ) (cs : List Call) (mode : ℕ) → i < 8 → accountOf i cs .mode ≡ some mode
-    → (accountOf i cs .taken ≤ length (accountOf i cs .accepted))
-    × (accountOf i cs .accepted ≡ bytesTaken (accountOf i cs) ++ waiting (lineAt (run allClosed cs) i))
-none-lost = accounts.none-lost
+-- A line since its last opening: no more bytes are taken than were accepted.
+pub none-twice : (i : ℕ) (cs : List Call) → i < 8 → accountOf i cs .taken ≤ length (accountOf i cs .accepted)
+none-twice = accounts.none-twice
 
--- The answers read off the sheets are, in order, exactly those of the line's definition for the bytes taken, from the
--- opening on. So how they were cut into deliveries makes no difference.
-pub answers-right : (i : ℕ) (cs : List Call) (mode : ℕ) → i < 8 → accountOf i cs .mode ≡ some mode
-    → accountOf i cs .answered ≡ map shown (answers mode outside (bytesTaken (accountOf i cs)))
+-- The answers read off the sheets are, in order, exactly those due to the first so many bytes accepted, as many as were
+-- taken, from the opening on. So how they were cut into deliveries makes no difference.
+pub answers-right : (i : ℕ) (cs : List Call) (m : Mode) → i < 8 → accountOf i cs .mode ≡ some m
+    → accountOf i cs .answered ≡ answersDue m [] (bytesTaken (accountOf i cs))
 answers-right = accounts.answers-right
 
--- Each turn's count, in the result and on the sheet, is the fall of its inbox, and the oldest bytes leave it.
-pub counts-right : (i : ℕ) (cs : List Call) (sheet : List ℕ) → i < 8 → smallestSheet ≤ length sheet
-    → let s = run allClosed cs in
-    let count = getD (gets s (serves sheet) .counts) i 0 in
-    (getD (gets s (serves sheet) .lent) i 0 ≡ count)
-    × (count + length (waiting (lineAt (next s (serves sheet)) i)) ≡ length (waiting (lineAt s i)))
-    × (waiting (lineAt (next s (serves sheet)) i) ≡ drop count (waiting (lineAt s i)))
-counts-right = rounds.counts-right
+-- Each turn takes, of the bytes accepted and not yet taken, exactly those up to and including the first of the oldest 64
+-- that gives an answer, and all 64, or all that wait, where none does; and it tells that answer. A closed line's takes none.
+pub counts-right : (i : ℕ) (cs : List Call) (sheet : List ℕ) → i < 8 → 1080 ≤ length sheet
+    → readTurn (gets (run allClosed cs) (serves sheet) .lent) i ≡ turnDue 64 (accountOf i cs)
+counts-right = rounds.turns-right
 
 -- An opening drops what waits, and the line begins anew.
-pub opening-drops : (i : ℕ) (cs : List Call) (mode : ℕ) → i < 8 → isMode mode ≡ true
-    → (waiting (lineAt (run allClosed (cs ++ opens i mode ∷ [])) i) ≡ [])
-    × (accountOf i (cs ++ opens i mode ∷ []) ≡ afresh mode)
+pub opening-drops : (i : ℕ) (cs : List Call) (mode : ℕ) (m : Mode) → i < 8 → modeOf mode ≡ some m
+    → accountOf i (cs ++ opens i mode ∷ []) ≡ afresh (some m)
 opening-drops = accounts.opening-drops
 
 -- Lines are apart: two histories with the same openings of a line, the same deliveries to it, and the same accepted
@@ -133,25 +172,20 @@ pub lines-apart : (i : ℕ) (cs ds : List Call) → i < 8 → events i cs ≡ ev
 lines-apart = accounts.lines-apart
 
 -- The bound. p is what waits up to and including a byte, and more comes behind it. Within ⌈n/64⌉ + k accepted rounds,
--- n bytes being p and k the answers that they complete from where the line is, all of p is taken, unless the line is
--- opened first. Deliveries in between and refused calls make no difference.
-pub taken-in-time : (i : ℕ) (cs ds : List Call) (mode : ℕ) (p more : List ℕ) → i < 8
-    → accountOf i cs .mode ≡ some mode
-    → waiting (lineAt (run allClosed cs) i) ≡ p ++ more
+-- n bytes being p and k the answers that they complete, all of p is taken, unless the line is opened first. Deliveries in
+-- between and refused calls make no difference.
+pub taken-in-time : (i : ℕ) (cs ds : List Call) (m : Mode) (p more : List ℕ) → i < 8
+    → accountOf i cs .mode ≡ some m
+    → bytesWaiting (accountOf i cs) ≡ p ++ more
     → T (staysOpen (events i ds))
-    → (length p + 63) / 64 + length (answers mode (after mode outside (bytesTaken (accountOf i cs))) p)
-    ≤ turnsAmong (events i ds)
+    → (length p + 63) / 64 + length (answersDue m (bytesTaken (accountOf i cs)) p) ≤ turnsAmong (events i ds)
     → length p ≤ takenIn (seen i (run allClosed cs) ds)
 taken-in-time = accounts.taken-in-time
 
--- The sheet of any round fits 1,080 bytes and is laid over the front of the lent one, the rest of which is unchanged;
--- its first eight bytes are the counts of the result; and it reads back to the eight turns.
-pub sheet-right : (cs : List Call) (sheet : List ℕ) → smallestSheet ≤ length sheet
-    → let s = run allClosed cs in
-    let left = gets s (serves sheet) .lent in
-    let told = sheetOf (toldOf s) in
-    (length told ≤ smallestSheet)
-    × (left ≡ told ++ drop (length told) sheet)
-    × (take 8 left ≡ gets s (serves sheet) .counts)
-    × ((i : ℕ) → i < 8 → readTurn left i ≡ getD (toldOf s) i idle)
+-- The sheet of any round is the one that document 01 lays out for the eight turns that are read off it; it fits 1,080 bytes
+-- and is laid over the front of the lent one, the rest of which is unchanged; the counts of the result are its first eight.
+pub sheet-right : (cs : List Call) (sheet : List ℕ) → 1080 ≤ length sheet
+    → let got = gets (run allClosed cs) (serves sheet) in
+    let laid = sheetOf (turnsRead (got .lent)) in
+    (length laid ≤ 1080) × (got .lent ≡ laid ++ drop (length laid) sheet) × (got .counts ≡ take 8 (got .lent))
 sheet-right = rounds.sheet-right

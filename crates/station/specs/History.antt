@@ -3,14 +3,16 @@
 use mathlib.Core.Bool.{Bool, true, false, not}
 use mathlib.Core.Option.{Option, none, some}
 use mathlib.Core.List.{List, [], _∷_, _++_}
-use Prim.Native.Nat.{ℕ, suc, _+_, _-_}
+use Prim.Native.Nat.{ℕ, suc, _+_}
 use lib.Dec.{eqb, leb}
-use lib.ListN.{length, take}
+use lib.ListN.{length, take, drop}
 use Rattle.characters.specs.Answers.{pick}
-use Rattle.groups.specs.Modes.{isMode}
+use Rattle.groups.specs.Modes.{modeOf, isMode}
+use Rattle.groups.specs.declared.Mode.{Mode}
+use Rattle.line.specs.Entries.{Entry, entryList}
 use Rattle.station.specs.Numbers.{numberOf}
 use Rattle.station.specs.Stations.{allClosed, called, opening, delivering}
-use Rattle.station.specs.Sheets.{Entry, Told, smallestSheet}
+use Rattle.station.specs.Sheets.{Told}
 use Rattle.station.specs.Rounds.{round}
 use Rattle.station.specs.Reading.{readTurn}
 use Rattle.station.specs.Records.{Station}
@@ -50,6 +52,11 @@ abbrev pub run : Station → List Call → Station
 run s [] = s
 run s (c ∷ cs) = run (next s c) cs
 
+-- what the callers have of calls one after the other
+abbrev pub gotsOf : Station → List Call → List Got
+gotsOf s [] = []
+gotsOf s (c ∷ cs) = gets s c ∷ gotsOf (next s c) cs
+
 -- ---- One line
 
 -- what a call is to a line: its own opening or delivery, refused or not, or an accepted round
@@ -61,7 +68,7 @@ pub data Event : Type 0 where
 unfoldable pub hears : ℕ → Call → List Event
 hears i (opens j mode) = pick (eqb j i) (openingIn mode ∷ []) []
 hears i (delivers j bytes) = pick (eqb j i) (deliveryOf bytes ∷ []) []
-hears i (serves sheet) = pick (leb smallestSheet (length sheet)) (turn ∷ []) []
+hears i (serves sheet) = pick (leb 1080 (length sheet)) (turn ∷ []) []
 
 abbrev pub events : ℕ → List Call → List Event
 events i [] = []
@@ -78,32 +85,33 @@ seenOf i (opens j mode) g = pick (eqb j i) (was mode (g .number) ∷ []) []
 seenOf i (delivers j bytes) g = pick (eqb j i) (got bytes (g .number) ∷ []) []
 seenOf i (serves sheet) g = pick (eqb (g .number) 0) (took (readTurn (g .lent) i) ∷ []) []
 
+-- from what the callers have
+abbrev pub seenBy : ℕ → List Call → List Got → List Sight
+seenBy i [] gots = []
+seenBy i (c ∷ cs) [] = []
+seenBy i (c ∷ cs) (g ∷ gots) = seenOf i c g ++ seenBy i cs gots
+
 abbrev pub seen : ℕ → Station → List Call → List Sight
-seen i s [] = []
-seen i s (c ∷ cs) = seenOf i c (gets s c) ++ seen i (next s c) cs
+seen i s cs = seenBy i cs (gotsOf s cs)
 
 -- ---- The account of a line since its last opening, from what the callers saw
 
 -- the mode it was opened in, if it was opened; the bytes accepted for it; how many of these were taken; and the answers
 -- that the sheets showed
 pub record Account : Type 0 where
-  pub mode : Option ℕ
+  pub mode : Option Mode
   pub accepted : List ℕ
   pub taken : ℕ
   pub answered : List Entry
 
+abbrev pub afresh : Option Mode → Account
+afresh mode = record { mode = mode; accepted = []; taken = 0; answered = [] }
+
 abbrev pub never : Account
-never = record { mode = none; accepted = []; taken = 0; answered = [] }
-
-abbrev pub afresh : ℕ → Account
-afresh mode = record { mode = some mode; accepted = []; taken = 0; answered = [] }
-
-abbrev pub entryList : Option Entry → List Entry
-entryList none = []
-entryList (some e) = e ∷ []
+never = afresh none
 
 unfoldable pub entered : Account → Sight → Account
-entered a (was mode number) = pick (eqb number 0) (afresh mode) a
+entered a (was mode number) = pick (eqb number 0) (afresh (modeOf mode)) a
 entered a (got bytes number) =
     record {
       mode = a .mode;
@@ -123,16 +131,19 @@ abbrev pub account : Account → List Sight → Account
 account a [] = a
 account a (x ∷ xs) = account (entered a x) xs
 
--- what the callers know of line i after these calls
-abbrev pub accountOf : ℕ → List Call → Account
-accountOf i cs = account never (seen i allClosed cs)
+-- what the callers know of line i after these calls, by what they have of them
+abbrev pub accountBy : ℕ → List Call → List Got → Account
+accountBy i cs gots = account never (seenBy i cs gots)
 
--- the bytes that were taken, and how many wait
+abbrev pub accountOf : ℕ → List Call → Account
+accountOf i cs = accountBy i cs (gotsOf allClosed cs)
+
+-- of the bytes accepted, those that were taken, and those that wait
 abbrev pub bytesTaken : Account → List ℕ
 bytesTaken a = take (a .taken) (a .accepted)
 
-abbrev pub countWaiting : Account → ℕ
-countWaiting a = length (a .accepted) - a .taken
+abbrev pub bytesWaiting : Account → List ℕ
+bytesWaiting a = drop (a .taken) (a .accepted)
 
 -- ---- What the bound counts
 

@@ -15,4 +15,5 @@ pub mod Due
 pub mod Parts
 pub mod Contracts
 pub mod Laws
+pub mod Figures
 pub mod Demands

@@ -69,9 +69,13 @@ turned l f =
       heard = f .result .heard;
     }
 
+-- "at most 64"
+abbrev pub mostInTurn : ℕ
+mostInTurn = 64
+
 -- "Each open line's turn takes its oldest bytes, at most 64, and ends early after a byte that gives an answer."
 unfoldable pub turning : StationLine → Turned
 turning l =
     pick (isOpen l)
-    (turned l (fed 0 (l .state) (l .content) (take 64 (waiting l))))
+    (turned l (fed 0 (l .state) (l .content) (take mostInTurn (waiting l))))
     (record { line = l; count = 0; heard = Nothing })

@@ -1,15 +1,18 @@
 -- One line by itself, in document 01's terms: what its own openings, deliveries and turns make of it, and what is seen
 -- of them. Nothing here knows of other lines or of bytes in arrays. `Laws/Calls.antt` says that this is what the calls
 -- of the code do to a line of the station.
-use mathlib.Core.Option.{Option, none, some}
-use mathlib.Core.List.{List, [], _∷_, _++_}
+use mathlib.Core.Option.{none}
+use mathlib.Core.List.{List, [], _∷_, _++_, map}
 use Prim.Native.Nat.{ℕ, _+_}
 use lib.Dec.{leb}
 use lib.ListN.{length, take, drop}
 use Rattle.characters.specs.Answers.{pick}
 use Rattle.groups.specs.Modes.{isMode}
-use Rattle.line.specs.Lines.{LineAnswer, State, outside, after, answers, untilAnswer}
-use Rattle.station.specs.Sheets.{Entry, Told, shown}
+use Rattle.line.specs.Lines.{State, outside, after, answers, untilAnswer}
+use Rattle.line.specs.Entries.{firstEntry}
+use Rattle.line.specs.Numbers.{shown}
+use Rattle.station.specs.Lines.{mostInTurn}
+use Rattle.station.specs.Sheets.{Told}
 use Rattle.station.specs.History.{Event, openingIn, deliveryOf, turn, Sight, was, got, took}
 
 -- a line is closed, or open: its mode, where it is, and the bytes that wait
@@ -19,7 +22,7 @@ pub data Line : Type 0 where
 
 -- how many bytes a turn takes: "its oldest bytes, at most 64", and none after one that gives an answer
 abbrev pub quota : ℕ → State → List ℕ → ℕ
-quota mode s inbox = untilAnswer mode s (take 64 inbox)
+quota mode s inbox = untilAnswer mode s (take mostInTurn inbox)
 
 unfoldable pub lineAfter : Line → Event → Line
 lineAfter l (openingIn mode) = pick (isMode mode) (opened mode outside []) l
@@ -31,16 +34,12 @@ lineAfter (opened mode s inbox) turn =
     opened mode (after mode s (take (quota mode s inbox) inbox)) (drop (quota mode s inbox) inbox)
 
 -- a turn gives at most one answer
-abbrev pub firstShown : List LineAnswer → Option Entry
-firstShown [] = none
-firstShown (a ∷ more) = some (shown a)
-
 unfoldable pub turnTold : Line → Told
 turnTold closed = record { count = 0; entry = none }
 turnTold (opened mode s inbox) =
     record {
       count = quota mode s inbox;
-      entry = firstShown (answers mode s (take (quota mode s inbox) inbox));
+      entry = firstEntry (map shown (answers mode s (take (quota mode s inbox) inbox)));
     }
 
 -- 17, 15 or 0

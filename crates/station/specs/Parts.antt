@@ -9,12 +9,13 @@ use Rattle.characters.specs.Answers.{Answer, refused, given, pick}
 use Rattle.groups.specs.declared.Stretch.{Stretch}
 use Rattle.line.specs.Steps.{heardAnswer}
 use Rattle.line.specs.Views.{FieldsInside}
+use Rattle.line.specs.Numbers.{shownIf}
 use Rattle.line.specs.declared.LineState.{LineState}
 use Rattle.line.specs.declared.Fields.{Fields}
 use Rattle.line.specs.declared.Heard.{Heard}
 use Rattle.line.specs.declared.Heard.the-variants.{Nothing, Accepted, Told}
-use Rattle.station.specs.Lines.{waiting, oldest, over, openedAs, filling, turning}
-use Rattle.station.specs.Sheets.{Told as TurnTold, shownIf, entryOf, twoBytes, offsets, joined, entries}
+use Rattle.station.specs.Lines.{waiting, oldest, over, openedAs, filling, mostInTurn, turning}
+use Rattle.station.specs.Sheets.{Told as TurnTold, entryOf, twoBytes, offsets, joined, entries}
 use Rattle.station.specs.Rounds.{tells}
 use Rattle.station.specs.Memory.{lineFrom}
 use Rattle.station.specs.Laws.Views.{lineLeft}
@@ -58,14 +59,14 @@ pub record Fills (l : StationLine) (bytes : List ℕ) (reply : Reply) (after : S
 
 -- the end of a turn's bytes: the end of those that wait, or 64 bytes on
 unfoldable pub endOf : ℕ → ℕ → ℕ
-endOf from to = pick (ltb 64 (to - from)) (from + 64) to
+endOf from to = pick (ltb mostInTurn (to - from)) (from + mostInTurn) to
 
 -- a turn of a line: the line afterwards, the count, and what was heard
 pub record Turns (l after : StationLine) (count : ℕ) (heard : Heard) : Type 0 where
   pub line-is : after ≡ turning l .line
   pub count-is : count ≡ turning l .count
   pub heard-is : heard ≡ turning l .heard
-  pub count-most : count ≤ 64
+  pub count-most : count ≤ mostInTurn
   pub inside : FieldsInside heard
 
 -- ---- Entries

@@ -1,11 +1,12 @@
 -- How a caller reads the sheet of a round: what it tells of each line's turn.
 use mathlib.Core.Option.{Option, none, some}
-use mathlib.Core.List.{List, [], _∷_}
+use mathlib.Core.List.{List, [], _∷_, map}
 use Prim.Native.Nat.{ℕ, _+_, _*_}
 use lib.Dec.{eqb}
 use lib.ListN.{getD, take, drop}
 use Rattle.characters.specs.Answers.{pick}
-use Rattle.station.specs.Sheets.{Entry, Told}
+use Rattle.line.specs.Entries.{Entry}
+use Rattle.station.specs.Sheets.{Told}
 
 -- the entry that stands at the front of these bytes
 unfoldable pub readEntry : List ℕ → Option Entry
@@ -32,3 +33,7 @@ readTurn sheet i =
       count = getD sheet i 0;
       entry = entryAt sheet (getD sheet (8 + 2 * i) 0 + 256 * getD sheet (9 + 2 * i) 0);
     }
+
+-- what it tells of the turns of lines 0 to 7
+abbrev pub turnsRead : List ℕ → List Told
+turnsRead sheet = map (readTurn sheet) (0 ∷ 1 ∷ 2 ∷ 3 ∷ 4 ∷ 5 ∷ 6 ∷ 7 ∷ [])

@@ -6,8 +6,9 @@ use lib.Dec.{leb}
 use lib.ListN.{length, replicate}
 use Rattle.characters.specs.Answers.{Answer, refused, given, need}
 use Rattle.line.specs.Steps.{heardAnswer}
+use Rattle.line.specs.Numbers.{shownIf}
 use Rattle.station.specs.Lines.{over, turning}
-use Rattle.station.specs.Sheets.{Told, shownIf, smallestSheet, sheetOf}
+use Rattle.station.specs.Sheets.{Told, smallestSheet, sheetOf}
 use Rattle.station.specs.Records.{StationLine, Station, Rounded, Turned}
 use Rattle.station.specs.declared.Refusal.{Refusal}
 use Rattle.station.specs.declared.Refusal.the-variants.{SheetShort}

@@ -3,25 +3,7 @@ use mathlib.Core.Option.{Option, none, some}
 use mathlib.Core.List.{List, [], _∷_, _++_, map}
 use Prim.Native.Nat.{ℕ, _+_, _%_, _/_}
 use lib.ListN.{length}
-use Rattle.characters.specs.Answers.{refused, given}
-use Rattle.line.specs.Lines.{LineAnswer}
-use Rattle.line.specs.Numbers.{numberOfNotice}
-
--- an answer as a sheet shows it
-pub record Entry : Type 0 where
-  pub number : ℕ
-  pub label : List ℕ
-  pub stamp : List ℕ
-  pub «data» : List ℕ
-
--- "All but answer 1 have three zeros and no text."
-abbrev pub shown : LineAnswer → Entry
-shown (given g) = record { number = 1; label = g .label; stamp = g .stamp; «data» = g .«data» }
-shown (refused notice) = record { number = numberOfNotice notice; label = []; stamp = []; «data» = [] }
-
-abbrev pub shownIf : Option LineAnswer → Option Entry
-shownIf none = none
-shownIf (some a) = some (shown a)
+use Rattle.line.specs.Entries.{Entry}
 
 -- what a round tells of one line's turn: how many bytes it took, and its answer, if it gave one
 pub record Told : Type 0 where

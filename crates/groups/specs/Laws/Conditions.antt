@@ -11,11 +11,11 @@ use lib.ListN.{length, take, drop, getD, length-drop}
 use lib.Seq.{length-take-le, take-suc, split-at, drop-at, getD-take, getD-drop, take-take, take-add}
 use mir.Facts.{T-not-not, or-no, eqb-no}
 use borrow.Author.Tests.{eq-eqb, ne-eqb, lt-ltb, le-ltb}
-use Rattle.characters.specs.Answers.{Answer, refused, need, found, by-need, by-pick, firstRefusal}
+use Rattle.characters.specs.Answers.{Answer, refused, need, found, by-need, by-pick}
 use Rattle.groups.specs.Modes.{separator, countedAtEnd}
 use Rattle.groups.specs.Table.{rows, lookup}
 use Rattle.groups.specs.Stamps.{isStamped, stampAs}
-use Rattle.groups.specs.Fields.{checked}
+use Rattle.groups.specs.Fields.{widthRight, kindRight, checked}
 use Rattle.groups.specs.Groups.{Group, groupOf, total, check, fieldsOf, behindLabel, read}
 use Rattle.groups.specs.Conditions.{
   firstAt,
@@ -23,16 +23,23 @@ use Rattle.groups.specs.Conditions.{
   bodyOf,
   misshapen,
   summed,
+  sumOf,
   checkWrong,
+  unlisted,
   stampFollowed,
+  stampWrong,
   dataIn,
   stampIn,
-  fieldConditions,
+  widthWrong,
+  kindWrong,
   conditions,
   markedFields,
   fieldsAt,
 }
 use Rattle.groups.specs.Laws.Tests.{split, equal-or}
+use Rattle.groups.specs.Laws.Groups.{total-end}
+use Rattle.groups.specs.Laws.Stamps.{kinds-agree-in}
+use Rattle.groups.specs.Laws.Named.{firstRefusal, numbered}
 use Rattle.groups.specs.Laws.Places.{
   fields-plain,
   fields-short,
@@ -49,7 +56,7 @@ use Rattle.groups.specs.Laws.Places.{
 use Rattle.groups.specs.declared.Mode.{Mode}
 use Rattle.groups.specs.declared.Mode.the-variants.{Historic, Standard}
 use Rattle.groups.specs.declared.Refusal.{Refusal}
-use Rattle.groups.specs.declared.Refusal.the-variants.{TooLong, Misshapen, CheckWrong, LabelUnknown}
+use Rattle.groups.specs.declared.Refusal.the-variants.{TooLong, Misshapen, CheckWrong, LabelUnknown, StampWrong, WidthWrong, KindWrong}
 use Rattle.groups.specs.declared.table.Rule.{Rule}
 
 -- ---- The first separator
@@ -145,11 +152,6 @@ misshapen-read m c h t =
 
 -- ---- The check character
 
--- one more character at the end adds its code
-total-end : (a : List ℕ) (x : ℕ) → total (a ++ x ∷ []) ≡ total a + x
-total-end [] x = omega arith
-total-end (y ∷ a) x = omega (arith, total-end a x)
-
 -- a content without its last two characters, where the first separator stands before these
 front-at : (s : ℕ) (c : List ℕ) → firstAt s c + 3 ≤ length c
     → take (length c - 2) c ≡ take (firstAt s c) c ++ s ∷ drop (firstAt s c + 1) (take (length c - 2) c)
@@ -176,14 +178,27 @@ front : (m : Mode) (c : List ℕ) → Shaped m c → take (length c - 2) c ≡ l
 unfolding labelOf bodyOf
 front m c s = front-at (separator m) c (omega arith)
 
+-- the sum of the first n codes, place by place
+sum-is : (n : ℕ) (c : List ℕ) → n ≤ length c → sumOf n c ≡ total (take n c)
+unfolding sumOf
+sum-is zero c h = refl
+sum-is (suc n) c h = rw (sum-is n c (omega arith), take-suc c n 0 h, total-end)
+
 -- the characters that enter the sum by places are those of label, separator and body, and the final separator where it
 -- counts
 sum-right : (m : Mode) (c : List ℕ) → Shaped m c
-    → total (take (summed m c) c) ≡ total (labelOf m c ++ separator m ∷ bodyOf m c) + countedAtEnd m
-sum-right Historic c s = rw (front Historic c s) (omega arith)
+    → sumOf (summed m c) c ≡ total (labelOf m c ++ separator m ∷ bodyOf m c) + countedAtEnd m
+sum-right Historic c s = rw (sum-is (length c - 2) c (omega arith), front Historic c s) (omega arith)
 sum-right Standard c s =
     let e : length c - 1 ≡ suc (length c - 2) = omega (arith, s .apart) in
-    rw (e, take-suc c (length c - 2) 0 (omega (arith, s .apart)), s .closed, total-end, front Standard c s)
+    rw (
+      sum-is (length c - 1) c (omega arith),
+      e,
+      take-suc c (length c - 2) 0 (omega (arith, s .apart)),
+      s .closed,
+      total-end,
+      front Standard c s,
+    )
 
 -- how a content of the right shape is read on
 shaped-read : (m : Mode) (c : List ℕ) → length c ≤ 128 → Shaped m c
@@ -198,25 +213,48 @@ shaped-read m c h s =
     (rest-at c (f + 1) 2 (omega arith) ∙ s .closed)
     ∙ rw (rest-at c (f + 1) 1 (omega arith), rest-front c (f + 1) 2 (omega arith), Bool·not-not, sum-right m c s)
 
+-- ---- The conditions by the names of their refusals
+
+abbrev namedFields : Mode → List ℕ → Option Rule → List (Refusal × Bool)
+namedFields m body rule =
+    (LabelUnknown, unlisted rule)
+    ∷ (StampWrong, stampWrong m body rule)
+    ∷ (WidthWrong, widthWrong body rule)
+    ∷ (KindWrong, kindWrong body rule)
+    ∷ []
+
+unfoldable pub named : Mode → List ℕ → List (Refusal × Bool)
+named m c =
+    (TooLong, ltb 128 (length c))
+    ∷ (Misshapen, misshapen m c)
+    ∷ (CheckWrong, checkWrong m c)
+    ∷ namedFields m (bodyOf m c) (lookup (labelOf m c) (rows m))
+
+-- their numbers are document 01's
+pub named-numbers : (m : Mode) (c : List ℕ) → numbered (named m c) ≡ conditions m c
+unfolding named conditions
+named-numbers m c = refl
+
 -- ---- The fields
 
 module _ (m : Mode) (r : Rule) (l b : List ℕ) where
   -- reading by a rule: the conditions on stamp, width and kind
   fields-told : (k : Bool) → isStamped (r .mark) ≡ k
-      → fieldsOf m r l b ≡ firstRefusal (fieldConditions m b (some r)) (groupOf l (stampIn k b) (dataIn k b))
-  unfolding firstRefusal need checked stampFollowed stampAs stampIn dataIn
-  fields-told false e = fields-plain m r l b e ∙ simp (e, Bool·not-not)
+      → fieldsOf m r l b ≡ firstRefusal (namedFields m b (some r)) (groupOf l (stampIn k b) (dataIn k b))
+  unfolding firstRefusal need checked widthRight kindRight stampFollowed stampAs stampIn dataIn
+  fields-told false e = fields-plain m r l b e ∙ rw (e, kinds-agree-in (r .kind) b) (simp Bool·not-not)
   fields-told true e =
       split 14 (length b)
       (λ h. equal-or (getD b 13 0) (separator m)
-      (λ q. fields-stamped m r l b e h q ∙ rw (e, eq-eqb _ _ q, lt-ltb 13 (length b) h) (simp Bool·not-not))
+      (λ q. fields-stamped m r l b e h q
+      ∙ rw (e, eq-eqb _ _ q, lt-ltb 13 (length b) h, kinds-agree-in (r .kind) (drop 14 b)) (simp Bool·not-not))
       (λ n. fields-unparted m r l b e h n ∙ rw (e, ne-eqb _ _ n, lt-ltb 13 (length b) h)))
       (λ h. fields-short m r l b e h ∙ rw (e, le-ltb 13 (length b) (omega arith)))
 
 -- and by the rule that the label has, if it has one
 listed-told : (m : Mode) (c : List ℕ) (o : Option Rule)
     → found o LabelUnknown (λ r. fieldsOf m r (labelOf m c) (bodyOf m c))
-    ≡ firstRefusal (fieldConditions m (bodyOf m c) o) (markedFields m c o)
+    ≡ firstRefusal (namedFields m (bodyOf m c) o) (markedFields m c o)
 unfolding found firstRefusal need
 listed-told m c none = refl
 listed-told m c (some r) = fields-told m r (labelOf m c) (bodyOf m c) (isStamped (r .mark)) refl
@@ -224,8 +262,8 @@ listed-told m c (some r) = fields-told m r (labelOf m c) (bodyOf m c) (isStamped
 -- ---- All of it
 
 -- reading is the refusal of the first condition that holds, or the fields by places where none does
-pub read-by-conditions : (m : Mode) (c : List ℕ) → read m c ≡ firstRefusal (conditions m c) (fieldsAt m c)
-unfolding conditions firstRefusal
+pub read-by-conditions : (m : Mode) (c : List ℕ) → read m c ≡ firstRefusal (named m c) (fieldsAt m c)
+unfolding named firstRefusal
 read-by-conditions m c =
     by-need (λ (a : Answer Refusal Group). read m c ≡ a) (not (ltb 128 (length c))) TooLong _
     (λ t. read-long m c (ltb→lt 128 (length c) (T-not-not (ltb 128 (length c)) t)))

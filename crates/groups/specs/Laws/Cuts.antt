@@ -1,14 +1,14 @@
 -- A text is cut where it was joined, and what was cut joins again.
-use mathlib.Core.Path.{_≡_, refl, sym, ap, _∙_, subst}
-use mathlib.Core.Bool.{Bool, true, false, not}
+use mathlib.Core.Path.{_≡_, refl, ap, _∙_, subst}
+use mathlib.Core.Bool.{Bool, not}
 use mathlib.Core.Option.{Option, none, some}
 use mathlib.Core.List.{List, [], _∷_, _++_}
-use Prim.Native.Nat.{ℕ, zero, suc, _+_, _≤_, _<_}
+use Prim.Native.Nat.{ℕ, _+_, _≤_}
 use native.Mathlib.Omega.{arith}
 use lib.Dec.{T, eqb, eqb→eq, eqb-refl}
 use lib.ListN.{length, length-append}
 use mir.Facts.{and-yes, yes-and}
-use Rattle.characters.specs.Answers.{every, pick, pick-yes, pick-no, by-pick}
+use Rattle.characters.specs.Answers.{every, pick-yes, pick-no, by-pick}
 use Rattle.groups.specs.Cuts.{Cut, cut, also, Ending, ending, ahead}
 use Rattle.groups.specs.Laws.Tests.{not-some}
 

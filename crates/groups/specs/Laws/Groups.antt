@@ -1,29 +1,27 @@
 -- What reading and writing come to: both say that a content is that of a group. From this, demand 2.
 use mathlib.Core.Path.{_≡_, refl, sym, ap, _∙_, subst}
 use mathlib.Core.Logic.{_↔_}
-use mathlib.Core.Bool.{Bool, true, false, not, _&&_, _||_}
-use mathlib.Core.Option.{Option, none, some}
-use mathlib.Core.List.{List, [], _∷_, _++_, append-assoc}
-use Prim.Native.Nat.{ℕ, zero, suc, _+_, _-_, _*_, _%_, _≤_, _<_}
+use mathlib.Core.Bool.{Bool, true, false, _&&_}
+use mathlib.Core.Option.{Option, some}
+use mathlib.Core.List.{List, [], _∷_, _++_}
+use Prim.Native.Nat.{ℕ, _+_, _-_, _≤_}
 use native.Mathlib.Omega.{arith}
-use lib.Dec.{T, leb, ltb, eqb, eqb→eq, eqb-refl, leb→le, le→leb}
+use lib.Dec.{T, eqb, eqb→eq, eqb-refl, le→leb}
 use lib.ListN.{length, take, drop, getD, length-append, take-append-drop}
 use lib.Seq.{take-at, drop-at}
-use mir.Facts.{and-yes, yes-and}
-use Rattle.characters.specs.Answers.{Answer, refused, given, need, found, need-yes, need-given, found-yes, found-given, every, pick, pick-yes, by-pick}
+use mir.Facts.{and-yes}
+use Rattle.characters.specs.Answers.{given, need-yes, need-given, found-yes, found-given, pick, pick-yes, by-pick}
 use Rattle.groups.specs.Modes.{separator}
 use Rattle.groups.specs.Table.{rows, lookup}
-use Rattle.groups.specs.Stamps.{isStamped, stampAs, stampRight, seasonRight, dateRight}
-use Rattle.groups.specs.Fields.{widthRight, kindRight, longest, checked}
-use Rattle.groups.specs.Cuts.{Cut, cut, Ending, ending}
-use Rattle.groups.specs.Groups.{Group, groupOf, check, content, body, Parts, behindStamp, parts, fieldsOf, behindLabel, read, compose}
+use Rattle.groups.specs.Stamps.{isStamped, stampAs, seasonRight, dateRight}
+use Rattle.groups.specs.Fields.{widthRight, longest, checked}
+use Rattle.groups.specs.Cuts.{Cut, Ending}
+use Rattle.groups.specs.Groups.{Group, total, check, content, body, Parts, behindStamp, parts, fieldsOf, behindLabel, read, compose}
 use Rattle.groups.specs.Inside.{RightFields, stampRoom}
 use Rattle.groups.specs.Laws.Tests.{not-some}
 use Rattle.groups.specs.Laws.Cuts.{cut-joined, cut-joins, ending-joined, ending-joins}
-use Rattle.groups.specs.Laws.Table.{RightRow, listed-right}
+use Rattle.groups.specs.Laws.Table.{listed-right}
 use Rattle.groups.specs.declared.Mode.{Mode}
-use Rattle.groups.specs.declared.Refusal.{Refusal}
-use Rattle.groups.specs.declared.Refusal.the-variants.{TooLong, Misshapen, CheckWrong, LabelUnknown, StampWrong, WidthWrong, KindWrong}
 use Rattle.groups.specs.declared.table.Mark.{Mark}
 use Rattle.groups.specs.declared.table.Rule.{Rule}
 
@@ -75,9 +73,9 @@ pub checked-given : {A : Type 0} {b : A} (r : Rule) (s d : List ℕ) (a : A) →
     → RightFields r s d × (a ≡ b)
 unfolding checked
 checked-given r s d a e =
-    let h = need-given _ StampWrong _ e in
-    let i = need-given _ WidthWrong _ (h .1) in
-    let j = need-given _ KindWrong _ (i .1) in
+    let h = need-given _ _ _ e in
+    let i = need-given _ _ _ (h .1) in
+    let j = need-given _ _ _ (i .1) in
     let z = j .1 in
     (record { stamp-right = h .0; width-right = i .0; kind-right = j .0 }, cc)
 
@@ -92,7 +90,7 @@ pub record IsGroup (m : Mode) (c : List ℕ) (g : Group) : Type 0 where
 pub compose-given : (m : Mode) (c : List ℕ) (g : Group) → compose m g ≡ given c → IsGroup m c g
 unfolding compose
 compose-given m c g e =
-    let (r, er, h) = found-given _ LabelUnknown _ e in
+    let (r, er, h) = found-given _ _ _ e in
     let i = checked-given r (g .stamp) (g .«data») _ h in
     record { rule = r; listed = er; fields = i .0; whole = i .1 }
 
@@ -110,13 +108,13 @@ joined m k c u t p c1 c2 c3 c4 = cc
 pub read-given : (m : Mode) (c : List ℕ) (g : Group) → read m c ≡ given g → IsGroup m c g
 unfolding read behindLabel fieldsOf
 read-given m c g e =
-    let h = need-given _ TooLong _ e in
-    let (u, eu, h1) = found-given _ Misshapen _ (h .1) in
-    let h2 = need-given _ Misshapen _ h1 in
-    let (t, et, h3) = found-given _ Misshapen _ (h2 .1) in
-    let h4 = need-given _ CheckWrong _ h3 in
-    let (r, er, h5) = found-given _ LabelUnknown _ (h4 .1) in
-    let (p, ep, h6) = found-given _ StampWrong _ h5 in
+    let h = need-given _ _ _ e in
+    let (u, eu, h1) = found-given _ _ _ (h .1) in
+    let h2 = need-given _ _ _ h1 in
+    let (t, et, h3) = found-given _ _ _ (h2 .1) in
+    let h4 = need-given _ _ _ h3 in
+    let (r, er, h5) = found-given _ _ _ (h4 .1) in
+    let (p, ep, h6) = found-given _ _ _ h5 in
     let h7 = checked-given r (p .stamp) (p .«data») _ h6 in
     subst (IsGroup m c) (h7 .1) (record {
       rule = r;
@@ -124,6 +122,13 @@ read-given m c g e =
       fields = h7 .0;
       whole = joined m (isStamped (r .mark)) c u t p (cut-joins (separator m) c u eu .1) (ending-joins (separator m) (u .after) t et) (eqb→eq _ _ (h4 .0)) (parts-join m (isStamped (r .mark)) (t .front) p ep);
     })
+
+-- ---- Sums
+
+-- one more character at the end adds its code
+pub total-end : (a : List ℕ) (x : ℕ) → total (a ++ x ∷ []) ≡ total a + x
+total-end [] x = omega arith
+total-end (y ∷ a) x = omega (arith, total-end a x)
 
 -- ---- Lengths
 

@@ -3,15 +3,15 @@ use mathlib.Core.Path.{_≡_, refl, subst}
 use mathlib.Core.Logic.{⊎-elim}
 use mathlib.Core.Bool.{Bool, true, false, _&&_, _||_}
 use mathlib.Core.List.{List, [], _∷_, _++_, map}
-use Prim.Native.Nat.{ℕ, suc, _-_, _≤_, _<_}
+use Prim.Native.Nat.{ℕ, suc, _+_, _-_, _≤_, _<_}
 use native.Mathlib.Omega.{arith}
 use lib.Dec.{T, leb, ltb, eqb, leb→le, le→leb, ltb→lt, lt→ltb, eqb→eq}
-use lib.ListN.{length, drop, length-append}
+use lib.ListN.{length, drop, length-append, length-map}
 use lib.Seq.{take-at}
 use mir.Facts.{and-yes, yes-and, or-yes}
 use Rattle.characters.specs.Answers.{given, every, every-weaker, every-joined, from-true}
 use Rattle.characters.specs.Wire.{wireByteOf, characterOf, isSound, HT, LF, CR, SP}
-use Rattle.characters.specs.WireLaws.{wire-sound, wire-character}
+use Rattle.characters.specs.WireLaws.{wire-sound, wire-character, control-wires}
 use Rattle.groups.specs.Modes.{separator}
 use Rattle.groups.specs.Kinds.{within, ofKind}
 use Rattle.groups.specs.Stamps.{isStamped, stampAs, seasonRight, dateRight}
@@ -50,7 +50,7 @@ within-plain low high x h k t =
     (le→leb x 0x7E (omega (arith, leb→le x high v))))
 
 -- a character of a kind is one of them
-of-kind-plain : (k : Kind) (x : ℕ) → T (ofKind k x) → T (isPlain x)
+pub of-kind-plain : (k : Kind) (x : ℕ) → T (ofKind k x) → T (isPlain x)
 of-kind-plain Digits x t = within-plain 0x30 0x39 x (omega arith) (omega arith) t
 of-kind-plain Hex x t =
     ⊎-elim (within-plain 0x30 0x39 x (omega arith) (omega arith)) (within-plain 0x41 0x46 x (omega arith) (omega arith))
@@ -155,6 +155,17 @@ written-small m g c e =
 pub on-is : (c : List ℕ) → onTheWire c ≡ wireByteOf LF ∷ (map wireByteOf c ++ wireByteOf CR ∷ [])
 unfolding onTheWire
 on-is c = refl
+
+-- the same with the bytes that LF and CR have on the wire
+pub on-bytes : (c : List ℕ) → onTheWire c ≡ 0x0A ∷ (map wireByteOf c ++ 0x8D ∷ [])
+on-bytes c =
+    let (stx, etx, eot, ht, lf, cr, sp) = control-wires in
+    rw (on-is c, lf, cr)
+
+-- two bytes more than the content
+pub on-length : (c : List ℕ) → length (onTheWire c) ≡ length c + 2
+unfolding onTheWire
+on-length c = simp (length-append, length-map) (omega arith)
 
 -- characters come back from their wire bytes
 read-back : (c : List ℕ) → T (areCharacters c) → map characterOf (map wireByteOf c) ≡ c

@@ -1,25 +1,24 @@
 -- The reader's definitions, test by test, in terms of places.
-use mathlib.Core.Path.{_≡_, refl, sym, ap, _∙_, subst}
-use mathlib.Core.Bool.{Bool, true, false, _&&_}
-use mathlib.Core.Option.{Option, none, some}
-use mathlib.Core.List.{List, [], _∷_, _++_}
-use Prim.Native.Nat.{ℕ, zero, suc, _+_, _-_, _%_, _<_, _≤_}
+use mathlib.Core.Path.{_≡_, refl, ap, _∙_}
+use mathlib.Core.Bool.{Bool, true, false}
+use mathlib.Core.Option.{none, some}
+use mathlib.Core.List.{List, [], _∷_}
+use Prim.Native.Nat.{ℕ, zero, suc, _+_, _-_, _<_, _≤_}
 use native.Mathlib.Numerals.{add-one}
 use native.Mathlib.Omega.{arith}
-use lib.Dec.{T, eqb, leb}
+use lib.Dec.{eqb}
 use lib.ListN.{length, take, drop, getD, drop-of-length-le}
 use lib.Seq.{drop-cons, length-take-le}
 use borrow.Author.Tests.{eq-eqb, ne-eqb, le-leb, lt-leb}
-use Rattle.characters.specs.Answers.{Answer, refused, given, need, found, pick}
-use Rattle.groups.specs.Modes.{separator, countedAtEnd}
+use Rattle.characters.specs.Answers.{refused, need, found, pick}
+use Rattle.groups.specs.Modes.{separator}
 use Rattle.groups.specs.Table.{rows, lookup}
 use Rattle.groups.specs.Stamps.{isStamped}
 use Rattle.groups.specs.Fields.{checked}
-use Rattle.groups.specs.Cuts.{Cut, cut, also, Ending, ending, ahead}
-use Rattle.groups.specs.Groups.{Group, groupOf, total, check, parts, fieldsOf, behindLabel, read}
+use Rattle.groups.specs.Cuts.{cut, also, ending, ahead}
+use Rattle.groups.specs.Groups.{groupOf, check, parts, fieldsOf, behindLabel, read}
 use Rattle.groups.specs.Conditions.{firstAt}
 use Rattle.groups.specs.declared.Mode.{Mode}
-use Rattle.groups.specs.declared.Refusal.{Refusal}
 use Rattle.groups.specs.declared.Refusal.the-variants.{TooLong, Misshapen, CheckWrong, LabelUnknown, StampWrong}
 use Rattle.groups.specs.declared.table.Rule.{Rule}
 

@@ -1,25 +1,31 @@
 -- Reading says that a content is that of a right group, in document 01's own terms.
 use mathlib.Core.Path.{_≡_, refl, sym, _∙_, subst}
 use mathlib.Core.Logic.{_↔_, ⊎-elim}
-use mathlib.Core.Bool.{Bool, true, false, not}
+use mathlib.Core.Bool.{Bool, not}
 use mathlib.Core.Option.{Option, some}
 use mathlib.Core.List.{List, [], _∷_, _++_, append-assoc}
 use mathlib.Core.List.{List·Memᴰ, List·Memᴰ·head, List·Memᴰ·tail, List·Memᴰ·not-nil, List·Memᴰ·cases-cons}
 use Prim.Native.Nat.{ℕ, _+_, _%_}
+use native.Mathlib.Omega.{arith}
 use lib.Dec.{T, eqb→eq, T-not, not-T}
 use mir.Facts.{and-yes, yes-eqb}
 use Rattle.characters.specs.Answers.{given, every, every-at, at-every, pick, pick-yes, pick-no, by-pick}
+use Rattle.characters.specs.Wire.{HT}
 use Rattle.groups.specs.Modes.{separator, countedAtEnd}
 use Rattle.groups.specs.Kinds.{ofKind}
 use Rattle.groups.specs.Table.{Entry, rows, same, lookup}
 use Rattle.groups.specs.Stamps.{isStamped}
 use Rattle.groups.specs.Fields.{widthRight, kindRight}
 use Rattle.groups.specs.Groups.{Group, total, check, content, body, read}
-use Rattle.groups.specs.Right.{parted, RightGroup}
+use Rattle.groups.specs.Right.{parted, counted, RightGroup}
 use Rattle.groups.specs.Laws.Tests.{not-some, same→eq, same-refl}
 use Rattle.groups.specs.Laws.Table.{distinct, labels-distinct}
-use Rattle.groups.specs.Laws.Groups.{IsGroup, read-given, read-right}
+use Rattle.groups.specs.Laws.Groups.{total-end, IsGroup, read-given, read-right}
+use Rattle.groups.specs.Laws.Stamps.{kinds-agree, stamps-agree}
 use Rattle.groups.specs.declared.Mode.{Mode}
+use Rattle.groups.specs.declared.Mode.the-variants.{Historic, Standard}
+use Rattle.groups.specs.declared.table.Mark.{Mark}
+use Rattle.groups.specs.declared.table.Mark.the-variants.{Unstamped, Letter, Space}
 use Rattle.groups.specs.declared.table.Rule.{Rule}
 
 -- ---- A label that is looked up stands in the list
@@ -33,11 +39,11 @@ every-row f (x ∷ es) e t h =
     (List·Memᴰ·cases-cons h)
 
 -- a label stands in a list with this rule
-abbrev In : List ℕ → Rule → List Entry → Type 0
+abbrev pub In : List ℕ → Rule → List Entry → Type 0
 In l r es = List·Memᴰ (record { label = l; rule = r }) es
 
 -- a label that is found stands in the list, with its rule
-lookup-listed : (l : List ℕ) (es : List Entry) (r : Rule) → lookup l es ≡ some r → In l r es
+pub lookup-listed : (l : List ℕ) (es : List Entry) (r : Rule) → lookup l es ≡ some r → In l r es
 unfolding lookup
 lookup-listed l [] r e = not-some e
 lookup-listed l (x ∷ es) r e =
@@ -73,42 +79,57 @@ listed-lookup l (x ∷ es) r t h = ⊎-elim here (λ k. there k (listed-lookup l
 
 -- ---- Right fields and a right group
 
+-- the fields with their separators are label, separator and body
+parted-is : (m : Mode) (mark : Mark) (g : Group)
+    → parted m mark g ≡ g .label ++ separator m ∷ body m (isStamped mark) (g .stamp) (g .«data»)
+unfolding body
+parted-is m Unstamped g = refl
+parted-is m Letter g = refl
+parted-is m Space g = refl
+
+-- the sum of what is counted
+counted-is : (m : Mode) (front : List ℕ) → total (counted m front) ≡ total front + countedAtEnd m
+counted-is Historic front = omega arith
+counted-is Standard front = total-end front HT
+
 -- a content is the fields with their separators, the final separator and the check character
-whole : (m : Mode) (b : Bool) (g : Group) (k : ℕ) → k ≡ (total (parted m b g) + countedAtEnd m) % 64 + 32
-    → content m (g .label) (body m b (g .stamp) (g .«data»)) ≡ parted m b g ++ separator m ∷ k ∷ []
-unfolding content body check
-whole m false g k e = simp (e, append-assoc)
-whole m true g k e = simp (e, append-assoc)
+whole : (m : Mode) (mark : Mark) (g : Group) (k : ℕ) → k ≡ total (counted m (parted m mark g)) % 64 + 32
+    → content m (g .label) (body m (isStamped mark) (g .stamp) (g .«data»)) ≡ parted m mark g ++ separator m ∷ k ∷ []
+unfolding content check
+whole m mark g k e = rw (e, counted-is m (parted m mark g), parted-is m mark g) (simp append-assoc)
 
 -- a content of right fields is that of a right group
 group-right : (m : Mode) (c : List ℕ) (g : Group) → IsGroup m c g → RightGroup m c g
 unfolding widthRight kindRight
 group-right m c g i =
-    let b = isStamped (i .rule .mark) in
+    let mark = i .rule .mark in
+    let kind = i .rule .kind in
     record {
       rule = i .rule;
-      checkCharacter = (total (parted m b g) + countedAtEnd m) % 64 + 32;
+      checkCharacter = total (counted m (parted m mark g)) % 64 + 32;
       listed = lookup-listed (g .label) (rows m) (i .rule) (i .listed);
-      separated = sym (i .whole) ∙ whole m b g _ refl;
+      separated = sym (i .whole) ∙ whole m mark g _ refl;
       check-right = refl;
-      stamp-right = i .fields .stamp-right;
+      stamp-right = stamps-agree mark (g .stamp) .0 (i .fields .stamp-right);
       width-right = eqb→eq _ _ (i .fields .width-right);
-      kind-right = every-at (ofKind (i .rule .kind)) (g .«data») 0 (i .fields .kind-right);
+      kind-right = λ j h. kinds-agree kind _ .0 (every-at (ofKind kind) (g .«data») 0 (i .fields .kind-right) j h);
     }
 
 -- and back
 right-group : (m : Mode) (c : List ℕ) (g : Group) → RightGroup m c g → IsGroup m c g
 unfolding widthRight kindRight
 right-group m c g r =
+    let mark = r .rule .mark in
+    let kind = r .rule .kind in
     record {
       rule = r .rule;
       listed = listed-lookup (g .label) (rows m) (r .rule) (labels-distinct m) (r .listed);
       fields = record {
-        stamp-right = r .stamp-right;
+        stamp-right = stamps-agree mark (g .stamp) .1 (r .stamp-right);
         width-right = yes-eqb (r .width-right);
-        kind-right = at-every (ofKind (r .rule .kind)) (g .«data») 0 (r .kind-right);
+        kind-right = at-every (ofKind kind) (g .«data») 0 (λ j h. kinds-agree kind _ .1 (r .kind-right j h));
       };
-      whole = whole m (isStamped (r .rule .mark)) g (r .checkCharacter) (r .check-right) ∙ sym (r .separated);
+      whole = whole m mark g (r .checkCharacter) (r .check-right) ∙ sym (r .separated);
     }
 
 -- reading gives these fields exactly when the content is that of a right group with them

@@ -2,21 +2,21 @@
 use mathlib.Core.Path.{_≡_, refl, sym, _∙_, subst}
 use mathlib.Core.Bool.{Bool, true, false}
 use mathlib.Core.List.{List, [], _∷_, _++_, append-assoc}
-use Prim.Native.Nat.{ℕ, zero, suc, _+_, _≤_}
+use Prim.Native.Nat.{ℕ, zero, suc, _+_, _≤_, _<_}
 use native.Mathlib.Omega.{arith}
 use lib.Dec.{T, le→leb}
-use lib.ListN.{length, take, drop, length-append}
-use lib.Seq.{take-at, drop-at, take-take, length-take-le}
+use lib.ListN.{length, take, drop, getD, length-append, length-drop}
+use lib.Seq.{take-at, drop-at, take-take, length-take-le, getD-take, getD-drop}
+use borrow.Author.Tests.{lt-leb}
 use Rattle.characters.specs.Answers.{Answer, refused, given, found-given, pick, pick-yes}
 use Rattle.groups.specs.Modes.{separator}
 use Rattle.groups.specs.Stamps.{isStamped, stampAs}
 use Rattle.groups.specs.Groups.{Group, content, body}
-use Rattle.groups.specs.Judging.{judging, stampSpan, stampStretch, shown, partOf, Shows, Inside}
+use Rattle.groups.specs.Judging.{judging, stampSpan, stampStretch, shown, partOf, partStart, Shows, Inside}
 use Rattle.groups.specs.Inside.{RightFields, stampRoom}
 use Rattle.groups.specs.Laws.Groups.{length-zero, stamp-length, body-length, content-length, read-given}
 use Rattle.groups.specs.declared.Mode.{Mode}
 use Rattle.groups.specs.declared.Refusal.{Refusal}
-use Rattle.groups.specs.declared.Refusal.the-variants.{ModeUnknown}
 use Rattle.groups.specs.declared.Stretch.{Stretch}
 use Rattle.groups.specs.declared.table.Mark.{Mark}
 use Rattle.groups.specs.declared.table.Rule.{Rule}
@@ -70,7 +70,7 @@ content-shows m g r f =
 pub shows : (number : ℕ) (c : List ℕ) (g : Group) → judging number c ≡ given g → Shows c (shown (judging number c)) g
 unfolding judging
 shows number c g e =
-    let (m, em, h) = found-given _ ModeUnknown _ e in
+    let (m, em, h) = found-given _ _ _ e in
     let i = read-given m c g h in
     rw e (subst (λ (c : List ℕ). Shows c (shown (given g)) g) (i .whole) (content-shows m g (i .rule) (i .fields)))
 
@@ -119,7 +119,7 @@ shown-inside number c = go (judging number c) refl
           all-short = omega arith;
         }
     go (given g) e =
-        let (m, em, h) = found-given _ ModeUnknown _ e in
+        let (m, em, h) = found-given _ _ _ e in
         let i = read-given m c g h in
         subst (λ (c : List ℕ). Inside (length c) (shown (given g))) (i .whole) (content-inside m g (i .rule) (i .fields))
 
@@ -148,3 +148,21 @@ pub part-inside : (s : Stretch) (c : List ℕ) → s .start + s .length ≤ leng
     → partOf s c ≡ take (s .length) (drop (s .start) c)
 unfolding partOf
 part-inside s c h = pick-yes _ _ _ (le→leb _ _ h)
+
+-- ---- A part, byte by byte
+
+pub part-fits : (s : Stretch) (c : List ℕ) → s .start + s .length ≤ length c
+    → (length (partOf s c) ≡ s .length) × (partStart s c ≡ s .start)
+    × ((i : ℕ) → i < s .length → getD (partOf s c) i 0 ≡ getD c (s .start + i) 0)
+unfolding partStart
+part-fits s c h =
+    let e = part-inside s c h in
+    let n : s .length ≤ length (drop (s .start) c) = rw length-drop (omega arith) in (
+      rw (e, length-take-le (s .length) (drop (s .start) c) n),
+      pick-yes _ _ _ (le→leb _ _ h),
+      λ i k. rw (e, getD-take (s .length) (drop (s .start) c) i 0 k, getD-drop (s .start) c i 0),
+    )
+
+pub part-unfit : (s : Stretch) (c : List ℕ) → length c < s .start + s .length → (partOf s c ≡ []) × (partStart s c ≡ 0)
+unfolding partOf partStart pick
+part-unfit s c h = let e = lt-leb (s .start + s .length) (length c) h in (rw e, rw e)

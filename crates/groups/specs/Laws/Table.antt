@@ -1,20 +1,19 @@
 -- The table's rules: each is one test that is computed over all its rows, and holds of each row that is found.
-use mathlib.Core.Path.{_≡_, refl, sym, ap, _∙_, subst}
-use mathlib.Core.Bool.{Bool, true, false, not, _&&_}
-use mathlib.Core.Option.{Option, none, some}
-use mathlib.Core.List.{List, [], _∷_, List·Memᴰ}
-use Prim.Native.Nat.{ℕ, _+_, _≤_}
-use native.Mathlib.Omega.{arith}
-use lib.Dec.{T, leb, eqb, leb→le}
+use mathlib.Core.Path.{_≡_, refl, subst}
+use mathlib.Core.Bool.{Bool, true, not, _&&_}
+use mathlib.Core.Option.{Option, some}
+use mathlib.Core.List.{List, [], _∷_}
+use Prim.Native.Nat.{ℕ, _+_}
+use lib.Dec.{T, leb, leb→le}
 use lib.ListN.{length}
-use mir.Facts.{and-yes, yes-and}
-use Rattle.characters.specs.Answers.{every, pick, pick-yes, pick-no, by-pick}
+use mir.Facts.{and-yes}
+use Rattle.characters.specs.Answers.{every, pick, by-pick}
 use Rattle.groups.specs.Modes.{separator}
 use Rattle.groups.specs.Table.{Entry, historicRows, standardRows, rows, same, lookup}
 use Rattle.groups.specs.Stamps.{isStamped}
 use Rattle.groups.specs.Fields.{longest}
 use Rattle.groups.specs.Inside.{stampRoom, ShortRow}
-use Rattle.groups.specs.Laws.Tests.{not-some, same→eq, same-refl}
+use Rattle.groups.specs.Laws.Tests.{not-some, same→eq}
 use Rattle.groups.specs.Laws.Cuts.{free}
 use Rattle.groups.specs.declared.Mode.{Mode}
 use Rattle.groups.specs.declared.Mode.the-variants.{Historic, Standard}

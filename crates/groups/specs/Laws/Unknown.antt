@@ -1,11 +1,12 @@
 -- A number that is no mode's, however large: "19: mode not 0 or 1".
-use mathlib.Core.Path.{_≡_, ap}
+use mathlib.Core.Path.{_≡_, refl, ap}
 use mathlib.Core.Bool.{false}
 use mathlib.Core.Option.{none}
 use mathlib.Core.List.{List}
-use Prim.Native.Nat.{ℕ, _≤_}
+use Prim.Native.Nat.{ℕ, zero, suc, _≤_}
 use native.Mathlib.Omega.{arith}
-use borrow.Author.Tests.{ne-eqb}
+use lib.Dec.{ltb}
+use borrow.Author.Tests.{ne-eqb, le-ltb}
 use Rattle.characters.specs.Answers.{refused, found-no, pick}
 use Rattle.groups.specs.Modes.{modeOf, isKnown, isMode}
 use Rattle.groups.specs.Groups.{Group}
@@ -23,8 +24,15 @@ module _ (number : ℕ) (h : 2 ≤ number) where
 
   pub judging-no-mode : (c : List ℕ) → judging number c ≡ refused ModeUnknown
   unfolding judging
-  judging-no-mode c = found-no ModeUnknown _ no-mode
+  judging-no-mode c = found-no _ _ no-mode
 
   pub writing-no-mode : (g : Group) (room : ℕ) → writing number g room ≡ refused ModeUnknown
   unfolding writing
-  writing-no-mode g room = found-no ModeUnknown _ no-mode
+  writing-no-mode g room = found-no _ _ no-mode
+
+-- and 0 and 1 are
+pub known-below : (number : ℕ) → isMode number ≡ ltb number 2
+unfolding modeOf pick
+known-below zero = refl
+known-below (suc zero) = refl
+known-below (suc (suc number)) = rw (not-mode (suc (suc number)) (omega arith), le-ltb (suc (suc number)) 2 (omega arith))

@@ -31,11 +31,11 @@ use Rattle.line.specs.declared.rules.Phase.the-variants.{Group}
 -- ---- What a group keeps
 
 -- the line in a group of these characters so far
-abbrev keeps : Bool → Bool → List ℕ → State
+abbrev pub keeps : Bool → Bool → List ℕ → State
 keeps flaw damaged t = record { phase = Group flaw damaged (ltb 128 (length t)); content = take 128 t }
 
 -- one character more
-added-keeps : (flaw damaged : Bool) (t : List ℕ) (c : ℕ)
+pub added-keeps : (flaw damaged : Bool) (t : List ℕ) (c : ℕ)
     → added flaw damaged (ltb 128 (length t)) (take 128 t) c ≡ keeps flaw damaged (t ++ c ∷ [])
 unfolding added pick
 added-keeps flaw damaged t c =
@@ -98,7 +98,7 @@ inside mode flaw damaged t (b ∷ bs) i =
 -- ---- The whole group
 
 -- the verdict on what a group of these bytes keeps is the one answer to them
-verdict-is : (mode : ℕ) (bs : List ℕ)
+pub verdict-is : (mode : ℕ) (bs : List ℕ)
     → verdict mode (anyDamaged bs) (ltb 128 (length (textOf bs))) (take 128 (textOf bs)) ≡ groupAnswer mode bs
 unfolding verdict groupAnswer pick
 verdict-is mode bs =

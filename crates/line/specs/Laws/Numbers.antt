@@ -1,9 +1,10 @@
 -- Every answer of a line has a number of 1 to 14, and an opening is 0 or 19.
-use mathlib.Core.Path.{_≡_, refl}
+use mathlib.Core.Path.{_≡_, refl, sym, _∙_}
 use mathlib.Core.Bool.{Bool, true, false}
 use mathlib.Core.Option.{Option, none, some}
 use mathlib.Core.List.{List, [], _∷_}
 use Prim.Native.Nat.{ℕ}
+use native.Mathlib.Omega.{arith}
 use lib.Dec.{T}
 use mir.Facts.{yes-and}
 use Rattle.characters.specs.Answers.{Answer, refused, given, every, pick, by-pick}
@@ -15,12 +16,20 @@ use Rattle.groups.specs.Judging.{judging, shown}
 use Rattle.groups.specs.Laws.ByNumber.{judged-number}
 use Rattle.groups.specs.declared.Refusal.{Refusal}
 use Rattle.line.specs.Rules.{move}
-use Rattle.line.specs.Lines.{LineAnswer, State, ofGroup, verdict, does, step, andThen, answers}
+use Rattle.line.specs.Lines.{LineAnswer, State, ofGroup, verdict, does, step, andThen, answers, outside}
+use Rattle.line.specs.Entries.{numberIn}
 use Rattle.line.specs.Numbers.{numberOfAnswer, numberOfOpening}
-use Rattle.line.specs.State.{stateOf, openingOf}
+use Rattle.line.specs.Numbers as Numbers
+use Rattle.line.specs.State.{lineOf, stateOf, openingOf}
+use Rattle.line.specs.Steps.{heardAnswer}
+use Rattle.line.specs.Views.{opened-view}
 use Rattle.line.specs.declared.Opening.the-variants.{Opened, ModeUnknown}
 use Rattle.line.specs.Symbols.{symbolOf}
 use Rattle.line.specs.Laws.Bytes.{step-at}
+use Rattle.line.specs.Laws.Openings.{opening-known, opening-unknown}
+use Rattle.line.specs.declared.LineState.{LineState}
+use Rattle.line.specs.declared.Heard.{Heard}
+use Rattle.line.specs.declared.Heard.the-variants.{Nothing, Accepted, Told}
 use Rattle.line.specs.declared.rules.Symbol.{Symbol}
 use Rattle.line.specs.declared.rules.Symbol.the-variants.{Stx, Etx, Eot, Lf, Cr, Damaged, Text}
 use Rattle.line.specs.declared.rules.Phase.{Phase}
@@ -100,3 +109,32 @@ opening-numbered mode = go (isMode mode)
         → numberOfOpening (pick known (Opened (stateOf mode Outside 0)) ModeUnknown) ≡ pick known 0 19
     go true = refl
     go false = refl
+
+-- ---- One number for an answer, whoever tells it
+
+-- with its fields as a sheet shows it, or alone
+pub answer-shown : (a : LineAnswer) → numberOfAnswer a ≡ Numbers.shown a .number
+answer-shown (given g) = refl
+answer-shown (refused notice) = refl
+
+-- as the code heard it, by the lent bytes that its stretches lie in
+pub heard-number : (h : Heard) (content : List ℕ) → Numbers.numberOf h ≡ numberIn (Numbers.shownIf (heardAnswer h content))
+unfolding heardAnswer
+heard-number Nothing content = refl
+heard-number (Accepted fields) content = refl
+heard-number (Told notice) content = refl
+
+-- ---- A line that is opened
+
+pub opened-outside : (mode : ℕ) (l : LineState) (content : List ℕ) → openingOf mode ≡ Opened l
+    → (lineOf l content ≡ outside) × (l .mode ≡ mode)
+opened-outside mode l content q = go (isMode mode) refl
+  where
+    go : (known : Bool) → isMode mode ≡ known → (lineOf l content ≡ outside) × (l .mode ≡ mode)
+    go true e =
+        let same = sym (opening-known mode e) ∙ q in
+        let z : l ≡ stateOf mode Outside 0 = cc in
+        rw z (opened-view mode content, refl)
+    go false e =
+        let same = sym (opening-unknown mode e) ∙ q in
+        absurd (let z : _≡_ {A = ℕ} 0 1 = cc in omega arith)

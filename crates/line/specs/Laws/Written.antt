@@ -35,17 +35,20 @@ plain-not : (c k : ℕ) → T (isPlain c) → T (not (isPlain k)) → eqb c k �
 plain-not c k t u = ne-eqb c k (λ e. T-not (isPlain k) u (rw e at t))
 
 -- so they are content
-plain-symbol : (c : ℕ) → T (isPlain c) → symbolOf (wireByteOf c) ≡ Text c
+pub plain-text : (c : ℕ) → T (isPlain c) → soundSymbol c ≡ Text c
 unfolding soundSymbol pick
-plain-symbol c t =
-    wire-symbol c (plain-below c t)
-    ∙ rw (
+plain-text c t =
+    rw (
       plain-not c STX t tt,
       plain-not c ETX t tt,
       plain-not c EOT t tt,
       plain-not c LF t tt,
       plain-not c CR t tt,
     )
+
+-- on the wire too
+plain-symbol : (c : ℕ) → T (isPlain c) → symbolOf (wireByteOf c) ≡ Text c
+plain-symbol c t = wire-symbol c (plain-below c t) ∙ plain-text c t
 
 -- LF and CR on the wire are themselves
 lf-symbol : symbolOf (wireByteOf LF) ≡ Lf

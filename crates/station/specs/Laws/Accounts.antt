@@ -1,23 +1,28 @@
 -- What the callers know of a line, its account, is right: nothing is lost, the answers are those of the bytes taken, no
 -- other line makes a difference, and no byte waits too long.
 use mathlib.Core.Path.{_≡_, refl, sym, ap, _∙_}
-use mathlib.Core.Bool.{Bool, true, false}
-use mathlib.Core.Option.{none, some}
+use mathlib.Core.Bool.{Bool, true, false, false≢true}
+use mathlib.Core.Option.{Option, none, some}
 use mathlib.Core.List.{List, [], _∷_, _++_, map}
 use Prim.Native.Nat.{ℕ, _+_, _/_, _≤_, _<_}
 use native.Mathlib.Omega.{arith}
 use lib.Dec.{T}
-use lib.ListN.{length, length-append}
-use lib.Seq.{take-append-seam}
+use lib.ListN.{length, take, length-append, length-map}
+use lib.Seq.{take-append-seam, drop-append-seam, take-take}
 use borrow.Author.Tests.{eq-eqb}
 use Rattle.characters.specs.Answers.{pick}
-use Rattle.groups.specs.Modes.{isMode}
+use Rattle.groups.specs.Modes.{modeOf, isKnown, isMode}
 use Rattle.groups.specs.Laws.Tests.{not-some}
+use Rattle.groups.specs.declared.Mode.{Mode}
 use Rattle.line.specs.Lines.{State, outside, after, answers}
+use Rattle.line.specs.Entries.{firstEntry}
+use Rattle.line.specs.ByBytes.{answersDue}
 use Rattle.line.specs.State.{lineOf}
+use Rattle.line.specs.Promises.{answers-by-bytes, count-by-bytes, opened-by-bytes}
+use Rattle.line.specs.Numbers.{shown}
+use Rattle.line.specs.Laws.Until.{until-first}
 use Rattle.station.specs.Lines.{isOpen, waiting}
 use Rattle.station.specs.Stations.{allClosed, lineAt}
-use Rattle.station.specs.Sheets.{shown}
 use Rattle.station.specs.History.{
   Call,
   opens,
@@ -36,12 +41,14 @@ use Rattle.station.specs.History.{
   account,
   accountOf,
   bytesTaken,
+  bytesWaiting,
   turnsAmong,
   staysOpen,
   takenIn,
 }
-use Rattle.station.specs.OneLine.{Line, closed, opened, lineSight}
-use Rattle.station.specs.Laws.Balance.{Balance, balance}
+use Rattle.station.specs.OneLine.{Line, closed, opened, quota, turnTold, lineSight}
+use Rattle.station.specs.Due.{turnBehind, turnDue}
+use Rattle.station.specs.Laws.Balance.{Balance, balance, quota-most}
 use Rattle.station.specs.Laws.Bound as bound
 use Rattle.station.specs.Laws.Views.{standsFor}
 use Rattle.station.specs.Laws.Calls.{Made, made-closed, closed-at-first, alone, made-next, projected, made-run}
@@ -68,54 +75,102 @@ open-waits l mode s inbox = go (isOpen l)
     go false e = cc
 
 -- what is so of a line that was last opened in a mode, and of its account
-record Since (mode : ℕ) (l : StationLine) (a : Account) : Type 0 where
-  stands : standsFor l ≡ opened mode (after mode outside (bytesTaken a)) (waiting l)
+record Since (m : Mode) (l : StationLine) (a : Account) : Type 0 where
+  mode : ℕ
+  of-mode : modeOf mode ≡ some m
+  stands : standsFor l ≡ opened mode (after mode outside (bytesTaken a)) (bytesWaiting a)
+  waits : waiting l ≡ bytesWaiting a
   taken-most : a .taken ≤ length (a .accepted)
-  whole : a .accepted ≡ bytesTaken a ++ waiting l
   told : a .answered ≡ map shown (answers mode outside (bytesTaken a))
 
 -- it is so where line and account balance
-since-balanced : (l : StationLine) (x : Line) (a : Account) (mode : ℕ) → standsFor l ≡ x → Balance x a
-    → a .mode ≡ some mode → Since mode l a
-since-balanced l closed a mode q b e = not-some (ap (λ (x : Account). x .mode) (sym b) ∙ e)
-since-balanced l (opened own s inbox) a mode q b e =
-    let z : own ≡ mode = cc in
-    let u : bytesTaken a ≡ b .bytes = rw (b .whole, b .counted, take-append-seam) in
-    let w = open-waits l own s inbox q in
+since-balanced : (l : StationLine) (x : Line) (a : Account) (m : Mode) → standsFor l ≡ x → Balance x a
+    → a .mode ≡ some m → Since m l a
+since-balanced l closed a m q b e = not-some (ap (λ (x : Account). x .mode) (sym b) ∙ e)
+since-balanced l (opened mode s inbox) a m q b e =
+    let t : bytesTaken a ≡ b .bytes = rw (b .whole, b .counted, take-append-seam) in
+    let w : bytesWaiting a ≡ inbox = rw (b .whole, b .counted, drop-append-seam) in
     record {
-      stands = q ∙ rw (u, w, b .reached, z);
+      mode = mode;
+      of-mode = sym (b .same-mode) ∙ e;
+      stands = q ∙ rw (t, w, b .reached);
+      waits = open-waits l mode s inbox q ∙ sym w;
       taken-most = rw (b .whole, b .counted) (simp length-append (omega arith));
-      whole = rw (u, w) (b .whole);
-      told = rw (u, ← z) (b .told);
+      told = rw t (b .told);
     }
 
 -- after any calls it is so of a line that was last opened in this mode
-since : (i : ℕ) (cs : List Call) (mode : ℕ) → i < 8 → accountOf i cs .mode ≡ some mode
-    → Since mode (lineAt (run allClosed cs) i) (accountOf i cs)
-since i cs mode h e =
+since : (i : ℕ) (cs : List Call) (m : Mode) → i < 8 → accountOf i cs .mode ≡ some m
+    → Since m (lineAt (run allClosed cs) i) (accountOf i cs)
+since i cs m h e =
     let l = lineAt (run allClosed cs) i in
-    since-balanced l (standsFor l) (accountOf i cs) mode refl (balanced i cs h) e
+    since-balanced l (standsFor l) (accountOf i cs) m refl (balanced i cs h) e
 
 -- ---- Nothing lost, and the answers right
 
--- a line that was not opened has accepted, taken and answered nothing
+-- a line that was not opened is closed
+closed-stands : (x : Line) (a : Account) → Balance x a → a .mode ≡ none → (x ≡ closed) × (a ≡ never)
+closed-stands closed a b e = (refl, b)
+closed-stands (opened mode s inbox) a b e =
+    absurd (false≢true (ap isKnown (sym e ∙ b .same-mode) ∙ b .known))
+
+-- it has accepted, taken and answered nothing
 pub not-opened : (i : ℕ) (cs : List Call) → i < 8 → accountOf i cs .mode ≡ none → accountOf i cs ≡ never
-not-opened i cs h = go (standsFor (lineAt (run allClosed cs) i)) (accountOf i cs) (balanced i cs h)
+not-opened i cs h e = closed-stands (standsFor (lineAt (run allClosed cs) i)) (accountOf i cs) (balanced i cs h) e .1
+
+-- no more bytes are taken than were accepted
+pub none-twice : (i : ℕ) (cs : List Call) → i < 8 → accountOf i cs .taken ≤ length (accountOf i cs .accepted)
+none-twice i cs h = go (accountOf i cs .mode) refl
   where
-    go : (x : Line) (a : Account) → Balance x a → a .mode ≡ none → a ≡ never
-    go closed a b e = b
-    go (opened mode s inbox) a b e = not-some (sym e ∙ b .same-mode)
+    go : (o : Option Mode) → accountOf i cs .mode ≡ o → accountOf i cs .taken ≤ length (accountOf i cs .accepted)
+    go none e = rw (not-opened i cs h e) (omega arith)
+    go (some m) e = since i cs m h e .taken-most
 
--- the bytes accepted are the bytes taken followed by the bytes waiting
-pub none-lost : (i : ℕ) (cs : List Call) (mode : ℕ) → i < 8 → accountOf i cs .mode ≡ some mode
+-- and the others wait in the inbox
+pub none-lost : (i : ℕ) (cs : List Call) (m : Mode) → i < 8 → accountOf i cs .mode ≡ some m
     → (accountOf i cs .taken ≤ length (accountOf i cs .accepted))
-    × (accountOf i cs .accepted ≡ bytesTaken (accountOf i cs) ++ waiting (lineAt (run allClosed cs) i))
-none-lost i cs mode h e = let x = since i cs mode h e in (x .taken-most, x .whole)
+    × (waiting (lineAt (run allClosed cs) i) ≡ bytesWaiting (accountOf i cs))
+none-lost i cs m h e = let x = since i cs m h e in (x .taken-most, x .waits)
 
--- the answers shown are those of the bytes taken
-pub answers-right : (i : ℕ) (cs : List Call) (mode : ℕ) → i < 8 → accountOf i cs .mode ≡ some mode
-    → accountOf i cs .answered ≡ map shown (answers mode outside (bytesTaken (accountOf i cs)))
-answers-right i cs mode h e = since i cs mode h e .told
+-- the answers shown are those that are due by the bytes taken
+pub answers-right : (i : ℕ) (cs : List Call) (m : Mode) → i < 8 → accountOf i cs .mode ≡ some m
+    → accountOf i cs .answered ≡ answersDue m [] (bytesTaken (accountOf i cs))
+answers-right i cs m h e =
+    let x = since i cs m h e in
+    x .told ∙ opened-by-bytes (x .mode) m (x .of-mode) (bytesTaken (accountOf i cs))
+
+-- ---- What a turn tells
+
+-- a line by itself tells of a turn what is due by its bytes
+turn-behind : (mode : ℕ) (m : Mode) → modeOf mode ≡ some m → (before inbox : List ℕ)
+    → turnTold (opened mode (after mode outside before) inbox) ≡ turnBehind m before (take 64 inbox)
+unfolding turnTold
+turn-behind mode m k before inbox =
+    let s = after mode outside before in
+    let oldest = take 64 inbox in
+    let first : firstEntry (map shown (answers mode s (take (quota mode s inbox) inbox))) ≡ firstEntry (answersDue m before oldest) =
+    rw (← (take-take (quota mode s inbox) 64 inbox (quota-most mode s inbox .1)), until-first mode s oldest, answers-by-bytes mode m k before oldest) in
+    rw (first, count-by-bytes mode m k before oldest)
+
+-- so does a line that balances with its account
+turn-balanced : (x : Line) (a : Account) → Balance x a → turnTold x ≡ turnDue 64 a
+unfolding turnTold
+turn-balanced closed a b = rw b
+turn-balanced (opened mode s inbox) a b = by-mode (modeOf mode) refl (b .known)
+  where
+    t : bytesTaken a ≡ b .bytes
+    t = rw (b .whole, b .counted, take-append-seam)
+
+    w : bytesWaiting a ≡ inbox
+    w = rw (b .whole, b .counted, drop-append-seam)
+
+    by-mode : (o : Option Mode) → modeOf mode ≡ o → isKnown o ≡ true → turnTold (opened mode s inbox) ≡ turnDue 64 a
+    by-mode none e k = absurd (false≢true k)
+    by-mode (some m) e k = rw (b .same-mode, e, t, w, b .reached) (turn-behind mode m e (b .bytes) inbox)
+
+pub turn-right : (i : ℕ) (cs : List Call) → i < 8
+    → turnTold (standsFor (lineAt (run allClosed cs) i)) ≡ turnDue 64 (accountOf i cs)
+turn-right i cs h = turn-balanced (standsFor (lineAt (run allClosed cs) i)) (accountOf i cs) (balanced i cs h)
 
 -- ---- An opening
 
@@ -126,7 +181,7 @@ account-append a (x ∷ xs) ys = account-append (entered a x) xs ys
 
 -- whatever came before, after an opening the account begins anew
 afresh-after : (i : ℕ) (s : Station) (a : Account) (cs : List Call) (mode : ℕ) → i < 8 → isMode mode ≡ true → Made s
-    → account a (seen i s (cs ++ opens i mode ∷ [])) ≡ afresh mode
+    → account a (seen i s (cs ++ opens i mode ∷ [])) ≡ afresh (modeOf mode)
 unfolding hears lineSight entered pick
 afresh-after i s a [] mode h k m = rw (alone i s (opens i mode) h m .seen-is, eq-eqb i i refl, k)
 afresh-after i s a (c ∷ cs) mode h k m =
@@ -134,14 +189,10 @@ afresh-after i s a (c ∷ cs) mode h k m =
     ∙ afresh-after i (next s c) (account a (seenOf i c (gets s c))) cs mode h k (made-next s c m)
 
 -- an opening drops what waits, and the line begins anew
-pub opening-drops : (i : ℕ) (cs : List Call) (mode : ℕ) → i < 8 → isMode mode ≡ true
-    → (waiting (lineAt (run allClosed (cs ++ opens i mode ∷ [])) i) ≡ [])
-    × (accountOf i (cs ++ opens i mode ∷ []) ≡ afresh mode)
-opening-drops i cs mode h k =
-    let ds = cs ++ opens i mode ∷ [] in
-    let e : accountOf i ds ≡ afresh mode = afresh-after i allClosed never cs mode h k made-closed in
-    let w = none-lost i ds mode h (rw e) .1 in
-    (sym (rw e at w), e)
+pub opening-drops : (i : ℕ) (cs : List Call) (mode : ℕ) (m : Mode) → i < 8 → modeOf mode ≡ some m
+    → accountOf i (cs ++ opens i mode ∷ []) ≡ afresh (some m)
+opening-drops i cs mode m h k =
+    afresh-after i allClosed never cs mode h (ap isKnown k) made-closed ∙ ap afresh k
 
 -- ---- Lines apart, and the bound
 
@@ -153,16 +204,18 @@ lines-apart i cs ds h e =
     let q = projected i allClosed ds h made-closed in
     p .seen-is ∙ rw e (sym (q .seen-is))
 
--- the bytes p at the head of the inbox are taken in time
-pub taken-in-time : (i : ℕ) (cs ds : List Call) (mode : ℕ) (p more : List ℕ) → i < 8
-    → accountOf i cs .mode ≡ some mode
-    → waiting (lineAt (run allClosed cs) i) ≡ p ++ more
+-- the bytes p, the oldest that wait, are taken in time
+pub taken-in-time : (i : ℕ) (cs ds : List Call) (m : Mode) (p more : List ℕ) → i < 8
+    → accountOf i cs .mode ≡ some m
+    → bytesWaiting (accountOf i cs) ≡ p ++ more
     → T (staysOpen (events i ds))
-    → (length p + 63) / 64 + length (answers mode (after mode outside (bytesTaken (accountOf i cs))) p)
-    ≤ turnsAmong (events i ds)
+    → (length p + 63) / 64 + length (answersDue m (bytesTaken (accountOf i cs)) p) ≤ turnsAmong (events i ds)
     → length p ≤ takenIn (seen i (run allClosed cs) ds)
-taken-in-time i cs ds mode p more h e w t b =
-    let s = run allClosed cs in
-    let q = projected i s ds h (made-run allClosed cs made-closed) in
-    rw (q .seen-is, since i cs mode h e .stands, w)
-    (bound.taken-in-time mode (after mode outside (bytesTaken (accountOf i cs))) p more (events i ds) t b)
+taken-in-time i cs ds m p more h e w t b =
+    let x = since i cs m h e in
+    let before = bytesTaken (accountOf i cs) in
+    let q = projected i (run allClosed cs) ds h (made-run allClosed cs made-closed) in
+    let k : length (answersDue m before p) ≡ length (answers (x .mode) (after (x .mode) outside before) p) =
+    rw (← (answers-by-bytes (x .mode) m (x .of-mode) before p)) (length-map (answers (x .mode) (after (x .mode) outside before) p) shown) in
+    rw (q .seen-is, x .stands, w)
+    (bound.taken-in-time (x .mode) (after (x .mode) outside before) p more (events i ds) t (rw k at b))

@@ -9,12 +9,14 @@ use lib.Dec.{leb}
 use lib.ListN.{length, take, drop, length-append, length-take, take-append-drop}
 use lib.Seq.{length-take-le, take-take}
 use Rattle.characters.specs.Answers.{pick}
-use Rattle.groups.specs.Modes.{isMode}
+use Rattle.groups.specs.Modes.{modeOf, isMode}
 use Rattle.line.specs.Lines.{LineAnswer, State, outside, after, answers}
 use Rattle.line.specs.Views.{until-most}
 use Rattle.line.specs.Laws.Bytes.{after-append, answers-append}
 use Rattle.line.specs.Laws.Until.{after-none, answers-none, until-one}
-use Rattle.station.specs.Sheets.{shown}
+use Rattle.line.specs.Entries.{entryList, firstEntry}
+use Rattle.line.specs.Numbers.{shown}
+use Rattle.station.specs.Lines.{mostInTurn}
 use Rattle.station.specs.History.{
   Event,
   openingIn,
@@ -26,7 +28,6 @@ use Rattle.station.specs.History.{
   took,
   Account,
   never,
-  entryList,
   entered,
   account,
 }
@@ -36,7 +37,6 @@ use Rattle.station.specs.OneLine.{
   opened,
   quota,
   lineAfter,
-  firstShown,
   turnTold,
   deliveryNumber,
   lineSight,
@@ -60,20 +60,20 @@ seen-append l (e ∷ a) b = ap (λ (xs : List Sight). lineSight l e ∷ xs) (see
 
 -- a turn takes no more bytes than wait, and no more than 64
 pub quota-most : (mode : ℕ) (s : State) (inbox : List ℕ)
-    → (quota mode s inbox ≤ length inbox) × (quota mode s inbox ≤ 64)
+    → (quota mode s inbox ≤ length inbox) × (quota mode s inbox ≤ mostInTurn)
 quota-most mode s inbox =
-    let h = until-most mode s (take 64 inbox) in
-    let e = length-take 64 inbox in
+    let h = until-most mode s (take mostInTurn inbox) in
+    let e = length-take mostInTurn inbox in
     (omega arith, omega arith)
 
 -- a turn gives at most one answer
 pub turn-one : (mode : ℕ) (s : State) (inbox : List ℕ)
     → length (answers mode s (take (quota mode s inbox) inbox)) ≤ 1
 turn-one mode s inbox =
-    rw (sym (take-take (quota mode s inbox) 64 inbox (quota-most mode s inbox .1))) (until-one mode s (take 64 inbox))
+    rw (sym (take-take (quota mode s inbox) mostInTurn inbox (quota-most mode s inbox .1))) (until-one mode s (take mostInTurn inbox))
 
 -- of one answer at most, the first that is shown is all that is shown
-first-shown : (told : List LineAnswer) → length told ≤ 1 → entryList (firstShown told) ≡ map shown told
+first-shown : (told : List LineAnswer) → length told ≤ 1 → entryList (firstEntry (map shown told)) ≡ map shown told
 first-shown [] h = refl
 first-shown (a ∷ []) h = refl
 first-shown (a ∷ b ∷ more) h = absurd (omega arith)
@@ -83,7 +83,7 @@ first-shown (a ∷ b ∷ more) h = absurd (omega arith)
 -- of an open line: accepted is taken followed by waiting; state and answers are those of the bytes taken
 pub record Balanced (mode : ℕ) (s : State) (inbox : List ℕ) (a : Account) : Type 0 where
   pub bytes : List ℕ
-  pub same-mode : a .mode ≡ some mode
+  pub same-mode : a .mode ≡ modeOf mode
   pub known : isMode mode ≡ true
   pub whole : a .accepted ≡ bytes ++ inbox
   pub counted : a .taken ≡ length bytes
@@ -141,7 +141,7 @@ balance-delivery mode s inbox bytes a false b =
 balance-turn : (mode : ℕ) (s : State) (inbox : List ℕ) (a : Account) (k : ℕ) → k ≤ length inbox
     → length (answers mode s (take k inbox)) ≤ 1 → Balanced mode s inbox a
     → Balanced mode (after mode s (take k inbox)) (drop k inbox)
-    (entered a (took (record { count = k; entry = firstShown (answers mode s (take k inbox)) })))
+    (entered a (took (record { count = k; entry = firstEntry (map shown (answers mode s (take k inbox))) })))
 unfolding entered
 balance-turn mode s inbox a k h one b =
     let more = answers-append mode outside (b .bytes) (take k inbox) in

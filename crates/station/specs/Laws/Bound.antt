@@ -13,6 +13,7 @@ use Rattle.groups.specs.Laws.Tests.{split}
 use Rattle.line.specs.Lines.{State, outside, after, answers}
 use Rattle.line.specs.Laws.Bytes.{answers-append}
 use Rattle.line.specs.Laws.Until.{until-stops}
+use Rattle.station.specs.Lines.{mostInTurn}
 use Rattle.station.specs.History.{Event, openingIn, deliveryOf, turn, turnsAmong, staysOpen, takenIn}
 use Rattle.station.specs.OneLine.{opened, quota, lineAfter, turnTold, lineSight, lineSeen}
 
@@ -22,10 +23,10 @@ turn-enough : (mode : ℕ) (s : State) (p r : List ℕ) → quota mode s (p ++ r
 turn-enough mode s p r h =
     let k = quota mode s (p ++ r) in
     split 64 k (λ (g : 64 ≤ k). omega arith) λ (g : k < 64).
-    let n = length-take 64 (p ++ r) in
+    let n = length-take mostInTurn (p ++ r) in
     let m = length-append p r in
-    let one = until-stops mode s (take 64 (p ++ r)) (omega arith) in
-    rw (sym (take-append-le k p r (omega arith)), sym (take-take k 64 (p ++ r) (omega arith))) (omega arith)
+    let one = until-stops mode s (take mostInTurn (p ++ r)) (omega arith) in
+    rw (sym (take-append-le k p r (omega arith)), sym (take-take k mostInTurn (p ++ r) (omega arith))) (omega arith)
 
 -- the answers to some bytes are as many as those to the first k and to the others
 answers-cut : (mode : ℕ) (s : State) (p : List ℕ) (k : ℕ)

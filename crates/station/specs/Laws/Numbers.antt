@@ -5,11 +5,13 @@ use mathlib.Core.List.{List, [], _∷_, _++_}
 use Prim.Native.Nat.{ℕ, _<_}
 use native.Mathlib.Omega.{arith}
 use lib.Dec.{T, ltb}
-use lib.ListN.{length, length-append}
+use lib.ListN.{length}
+use lib.Seq.{drop-append-seam}
 use borrow.Author.Tests.{le-ltb, le-leb, lt-leb, eq-eqb}
 use Rattle.characters.specs.Answers.{Answer, refused, given, need, by-need, pick}
 use Rattle.groups.specs.Modes.{isMode}
 use Rattle.groups.specs.Laws.Tests.{split}
+use Rattle.groups.specs.Laws.Unknown.{known-below}
 use Rattle.line.specs.State.{openingOf}
 use Rattle.line.specs.declared.Opening.{Opening}
 use Rattle.line.specs.declared.Opening.the-variants as line
@@ -37,7 +39,7 @@ use Rattle.station.specs.History.{
   seenOf,
   Account,
   accountOf,
-  countWaiting,
+  bytesWaiting,
 }
 use Rattle.station.specs.OneLine.{Line, closed, opened, deliveryNumber, lineSight}
 use Rattle.station.specs.Due.{numbersOf, isAmong, deliveryDue, numberDue, lentBy, noCounts}
@@ -100,15 +102,15 @@ delivery-due : (l : Line) (a : Account) (bytes : List ℕ) → Balance l a → d
 unfolding deliveryNumber pick
 delivery-due closed a bytes b = rw b
 delivery-due (opened mode s inbox) a bytes b =
-    let n : countWaiting a ≡ length inbox = rw (b .whole, b .counted) (simp length-append (omega arith)) in
-    rw (b .same-mode, n)
+    let n : bytesWaiting a ≡ inbox = rw (b .whole, b .counted, drop-append-seam) in
+    rw (b .same-mode, b .known, n)
 
 -- the number of any call is the one that is due
 pub numbers-due : (cs : List Call) (c : Call) → gets (run allClosed cs) c .number ≡ numberDue cs c
 unfolding gets opening delivering turns need pick
 numbers-due cs (opens i mode) =
     split 8 i (λ h. rw (le-ltb i 8 h, le-leb 8 i h)) λ h.
-    rw (lt-leb 8 i h) (opening-number i (run allClosed cs) mode h (made-run allClosed cs made-closed))
+    rw (lt-leb 8 i h, ← known-below mode) (opening-number i (run allClosed cs) mode h (made-run allClosed cs made-closed))
 numbers-due cs (delivers i bytes) =
     split 8 i (λ h. rw (le-ltb i 8 h, le-leb 8 i h)) λ h.
     rw (lt-leb 8 i h)

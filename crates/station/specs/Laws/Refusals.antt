@@ -1,7 +1,7 @@
 -- Calls that are refused on every station, whatever its lines are: 16, 19 and 18; and what a call leaves and tells is
 -- what the contracts of the code say of it.
 use mathlib.Core.Path.{_≡_, refl}
-use mathlib.Core.List.{List}
+use mathlib.Core.List.{List, []}
 use Prim.Native.Nat.{ℕ, _≤_, _<_}
 use lib.ListN.{length}
 use borrow.Author.Tests.{lt-ltb, le-ltb, lt-leb}
@@ -49,11 +49,23 @@ module _ (s : Station) (line : ℕ) where
   unfolding next gets
   opens-called mode = (refl, refl)
 
+  -- all that its caller has of an opening is its number
+  pub opens-got : (mode number : ℕ) → number ≡ gets s (opens line mode) .number
+      → record { number = number; counts = []; lent = [] } ≡ gets s (opens line mode)
+  unfolding gets
+  opens-got mode number e = rw e
+
   pub delivers-called : (bytes : List ℕ)
       → (next s (delivers line bytes) ≡ called s (delivering s line bytes) .station)
       × (gets s (delivers line bytes) .number ≡ numberOf (called s (delivering s line bytes) .reply))
   unfolding next gets
   delivers-called bytes = (refl, refl)
+
+  -- and of a delivery its number and the bytes that were lent
+  pub delivers-got : (bytes : List ℕ) (number : ℕ) → number ≡ gets s (delivers line bytes) .number
+      → record { number = number; counts = []; lent = bytes } ≡ gets s (delivers line bytes)
+  unfolding gets
+  delivers-got bytes number e = rw e
 
 pub serves-round : (s : Station) (sheet : List ℕ)
     → (next s (serves sheet) ≡ round s sheet .result .station)

@@ -1,21 +1,23 @@
--- An accepted round: its counts, what it leaves waiting, and its sheet.
-use mathlib.Core.Path.{_≡_, refl, sym, ap, _∙_}
-use mathlib.Core.List.{List, [], _++_, map, map-map}
-use Prim.Native.Nat.{ℕ, _+_, _≤_, _<_}
+-- An accepted round: what it tells of each turn, and its sheet.
+use mathlib.Core.Path.{_≡_, refl, sym, _∙_}
+use mathlib.Core.List.{List, [], _∷_, _++_, map, map-map}
+use Prim.Native.Nat.{ℕ, _≤_, _<_}
 use native.Mathlib.Omega.{arith}
-use lib.ListN.{length, take, drop, getD, length-map, length-drop}
+use lib.ListN.{length, take, drop, getD, length-map}
 use borrow.Author.Tests.{le-leb}
 use Rattle.characters.specs.Answers.{need}
-use Rattle.station.specs.Lines.{waiting, turning}
+use Rattle.station.specs.Lines.{turning}
 use Rattle.station.specs.Stations.{zeroLine, allClosed, lineAt}
 use Rattle.station.specs.Sheets.{Told, idle, sheetOf}
 use Rattle.station.specs.Rounds.{turns, tells, toldOf, afterTurns, round}
-use Rattle.station.specs.Reading.{readTurn}
-use Rattle.station.specs.History.{Call, serves, next, gets, run}
+use Rattle.station.specs.Reading.{readTurn, turnsRead}
+use Rattle.station.specs.History.{Call, serves, gets, run, accountOf}
+use Rattle.station.specs.Due.{turnDue}
 use Rattle.station.specs.Laws.Sheets.{sheet-fits, counts-first, reads-back}
 use Rattle.station.specs.Laws.Views.{turn-view}
 use Rattle.station.specs.Laws.Calls.{Made, long-at, turn-at, turns-short, made-closed, made-run}
-use Rattle.station.specs.Records.{Station, Turned}
+use Rattle.station.specs.Laws.Accounts.{turn-right}
+use Rattle.station.specs.Records.{Station}
 
 -- an accepted round is that of all turns
 round-accepted : (s : Station) (sheet : List ℕ) → 1080 ≤ length sheet
@@ -47,47 +49,51 @@ round-sheet s sheet m t =
       reads-back (toldOf s) eight short rest,
     )
 
--- the counts of an accepted round
-round-counts : (i : ℕ) (s : Station) (sheet : List ℕ) → i < 8 → Made s → 1080 ≤ length sheet
-    → let count = getD (round s sheet .result .counts) i 0 in
-    let left = waiting (lineAt (round s sheet .result .station) i) in
-    (getD (round s sheet .sheet) i 0 ≡ count)
-    × (count + length left ≡ length (waiting (lineAt s i)))
-    × (left ≡ drop count (waiting (lineAt s i)))
-unfolding readTurn
-round-counts i s sheet h m t =
-    let k : i < length (s .lines) = omega (arith, m .eight) in
-    let none = zeroLine [] [] in
-    let mine = turning (lineAt s i) in
-    let v = turn-view (lineAt s i) (long-at (s .lines) i none (m .longs) k) in
-    let count : getD (round s sheet .result .counts) i 0 ≡ mine .count =
-    rw (round-accepted s sheet t) (turn-at (λ (t : Turned). t .count) (s .lines) i none 0 k) in
-    let left : lineAt (round s sheet .result .station) i ≡ mine .line =
-    rw (round-accepted s sheet t) (turn-at (λ (t : Turned). t .line) (s .lines) i none none k) in
-    let read = round-sheet s sheet m t .3 i h ∙ turn-at tells (s .lines) i none idle k in (
-      ap (λ (t : Told). t .count) read ∙ sym count,
-      rw (count, left, v .waits) (omega (arith, v .count-waits, length-drop (mine .count) (waiting (lineAt s i)))),
-      rw (count, left) (v .waits),
+-- eight turns are the turns of lines 0 to 7
+eight-turns : (left : List ℕ) (ts : List Told) → length ts ≡ 8 → ((i : ℕ) → i < 8 → readTurn left i ≡ getD ts i idle)
+    → turnsRead left ≡ ts
+eight-turns left [] n r = absurd (omega arith)
+eight-turns left (a ∷ []) n r = absurd (omega arith)
+eight-turns left (a ∷ b ∷ []) n r = absurd (omega arith)
+eight-turns left (a ∷ b ∷ c ∷ []) n r = absurd (omega arith)
+eight-turns left (a ∷ b ∷ c ∷ d ∷ []) n r = absurd (omega arith)
+eight-turns left (a ∷ b ∷ c ∷ d ∷ e ∷ []) n r = absurd (omega arith)
+eight-turns left (a ∷ b ∷ c ∷ d ∷ e ∷ f ∷ []) n r = absurd (omega arith)
+eight-turns left (a ∷ b ∷ c ∷ d ∷ e ∷ f ∷ g ∷ []) n r = absurd (omega arith)
+eight-turns left (a ∷ b ∷ c ∷ d ∷ e ∷ f ∷ g ∷ h ∷ x ∷ more) n r = absurd (omega arith)
+eight-turns left (a ∷ b ∷ c ∷ d ∷ e ∷ f ∷ g ∷ h ∷ []) n r =
+    rw (
+      r 0 (omega arith),
+      r 1 (omega arith),
+      r 2 (omega arith),
+      r 3 (omega arith),
+      r 4 (omega arith),
+      r 5 (omega arith),
+      r 6 (omega arith),
+      r 7 (omega arith),
     )
 
--- each turn's count is the fall of its inbox, and the oldest bytes leave it
-pub counts-right : (i : ℕ) (cs : List Call) (sheet : List ℕ) → i < 8 → 1080 ≤ length sheet
-    → let s = run allClosed cs in
-    let count = getD (gets s (serves sheet) .counts) i 0 in
-    (getD (gets s (serves sheet) .lent) i 0 ≡ count)
-    × (count + length (waiting (lineAt (next s (serves sheet)) i)) ≡ length (waiting (lineAt s i)))
-    × (waiting (lineAt (next s (serves sheet)) i) ≡ drop count (waiting (lineAt s i)))
-unfolding gets next
-counts-right i cs sheet h t = round-counts i (run allClosed cs) sheet h (made-run allClosed cs made-closed) t
-
--- the sheet of any round fits, is laid over the lent one, begins with the counts, and reads back to the eight turns
-pub sheet-right : (cs : List Call) (sheet : List ℕ) → 1080 ≤ length sheet
-    → let s = run allClosed cs in
-    let left = gets s (serves sheet) .lent in
-    let told = sheetOf (toldOf s) in
-    (length told ≤ 1080)
-    × (left ≡ told ++ drop (length told) sheet)
-    × (take 8 left ≡ gets s (serves sheet) .counts)
-    × ((i : ℕ) → i < 8 → readTurn left i ≡ getD (toldOf s) i idle)
+-- what a round tells of a line's turn is what is due to it
+pub turns-right : (i : ℕ) (cs : List Call) (sheet : List ℕ) → i < 8 → 1080 ≤ length sheet
+    → readTurn (gets (run allClosed cs) (serves sheet) .lent) i ≡ turnDue 64 (accountOf i cs)
 unfolding gets
-sheet-right cs sheet t = round-sheet (run allClosed cs) sheet (made-run allClosed cs made-closed) t
+turns-right i cs sheet h t =
+    let s = run allClosed cs in
+    let m = made-run allClosed cs made-closed in
+    let k : i < length (s .lines) = omega (arith, m .eight) in
+    let none = zeroLine [] [] in
+    round-sheet s sheet m t .3 i h ∙ turn-at tells (s .lines) i none idle k
+    ∙ turn-view (lineAt s i) (long-at (s .lines) i none (m .longs) k) .told-is
+    ∙ turn-right i cs h
+
+-- the sheet of any round is that of the turns that it tells, and fits 1,080 bytes; its first eight bytes are the counts
+pub sheet-right : (cs : List Call) (sheet : List ℕ) → 1080 ≤ length sheet
+    → let got = gets (run allClosed cs) (serves sheet) in
+    let told = sheetOf (turnsRead (got .lent)) in
+    (length told ≤ 1080) × (got .lent ≡ told ++ drop (length told) sheet) × (got .counts ≡ take 8 (got .lent))
+unfolding gets
+sheet-right cs sheet t =
+    let s = run allClosed cs in
+    let m = made-run allClosed cs made-closed in
+    let (fits, laid, first, read) = round-sheet s sheet m t in
+    rw (eight-turns (round s sheet .sheet) (toldOf s) (told-eight s m) read) (fits, laid, sym first)

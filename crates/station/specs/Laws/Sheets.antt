@@ -12,20 +12,8 @@ use lib.Seq.{take-at, drop-at, getD-append-add, take-append-seam, drop-append-se
 use mir.Facts.{and-yes}
 use borrow.Author.Tests.{ne-eqb}
 use Rattle.characters.specs.Answers.{pick, every}
-use Rattle.station.specs.Sheets.{
-  idle,
-  Entry,
-  Told,
-  entryBytes,
-  entryOf,
-  twoBytes,
-  offsetOf,
-  offsets,
-  joined,
-  counts,
-  entries,
-  sheetOf,
-}
+use Rattle.line.specs.Entries.{Entry}
+use Rattle.station.specs.Sheets.{idle, Told, entryBytes, entryOf, twoBytes, offsetOf, offsets, joined, counts, entries, sheetOf}
 use Rattle.station.specs.Reading.{readEntry, entryAt, readTurn}
 
 -- an entry takes at most 132 bytes

@@ -2,7 +2,7 @@
 use mathlib.Core.Path.{_≡_, refl, sym, ap, _∙_}
 use mathlib.Core.Bool.{Bool, true, false}
 use mathlib.Core.Option.{Option, none, some}
-use mathlib.Core.List.{List, [], _∷_, _++_}
+use mathlib.Core.List.{List, [], _∷_, _++_, map}
 use Prim.Native.Nat.{ℕ, zero, suc, _+_, _-_, _≤_}
 use native.Mathlib.Omega.{arith}
 use lib.Dec.{T, ltb, leb, ltb→lt, nltb→le, leb→le, le→leb}
@@ -14,6 +14,8 @@ use Rattle.line.specs.Lines.{LineAnswer, State, listed, outside}
 use Rattle.line.specs.State.{lineOf, stateOf, openingOf}
 use Rattle.line.specs.Steps.{heardAnswer, fed}
 use Rattle.line.specs.Views.{FieldsInside, opened-view, fed-view, until-most}
+use Rattle.line.specs.Entries.{firstEntry}
+use Rattle.line.specs.Numbers.{shown, shownIf}
 use Rattle.line.specs.Laws.Openings.{opening-known, opening-unknown}
 use Rattle.line.specs.Laws.Heard.{heard-nothing, heard-told, heard-accepted}
 use Rattle.line.specs.declared.Opening.{Opening}
@@ -22,11 +24,11 @@ use Rattle.line.specs.declared.Heard.{Heard}
 use Rattle.line.specs.declared.Heard.the-variants.{Nothing, Accepted, Told}
 use Rattle.line.specs.declared.rules.Phase.the-variants.{Outside}
 use Rattle.station.specs.Numbers.{numberOfRefusal}
-use Rattle.station.specs.Lines.{isOpen, waiting, openedAs, added, filling, oldest, turned, turning}
-use Rattle.station.specs.Sheets.{shownIf, entryBytes, entryOf}
+use Rattle.station.specs.Lines.{isOpen, waiting, openedAs, added, filling, oldest, turned, mostInTurn, turning}
+use Rattle.station.specs.Sheets.{entryBytes, entryOf}
 use Rattle.station.specs.Rounds.{tells}
 use Rattle.station.specs.History.{Event, openingIn, deliveryOf, turn}
-use Rattle.station.specs.OneLine.{Line, closed, opened, quota, lineAfter, firstShown, turnTold, deliveryNumber}
+use Rattle.station.specs.OneLine.{Line, closed, opened, quota, lineAfter, turnTold, deliveryNumber}
 use Rattle.station.specs.Laws.Sheets.{isShort}
 use Rattle.station.specs.Records.{StationLine, Turned}
 use Rattle.station.specs.declared.Refusal.{Refusal}
@@ -100,24 +102,24 @@ pub record TurnView (l : StationLine) (t : Turned) : Type 0 where
   pub long : Long (t .line)
   pub line-is : standsFor (t .line) ≡ lineAfter (standsFor l) turn
   pub told-is : tells t ≡ turnTold (standsFor l)
-  pub count-most : t .count ≤ 64
+  pub count-most : t .count ≤ mostInTurn
   pub count-waits : t .count ≤ length (waiting l)
   pub waits : waiting (t .line) ≡ drop (t .count) (waiting l)
   pub inside : FieldsInside (t .heard)
 
 -- a turn takes at most 64 bytes, and no more than there are
-quota-most : (mode : ℕ) (s : State) (bs : List ℕ) → (quota mode s bs ≤ 64) × (quota mode s bs ≤ length bs)
+quota-most : (mode : ℕ) (s : State) (bs : List ℕ) → (quota mode s bs ≤ mostInTurn) × (quota mode s bs ≤ length bs)
 quota-most mode s bs =
-    let k = until-most mode s (take 64 bs) in
-    let n = length-take 64 bs in
+    let k = until-most mode s (take mostInTurn bs) in
+    let n = length-take mostInTurn bs in
     (omega arith, omega arith)
 
 -- what it takes of the oldest 64 it takes of all
-quota-take : (mode : ℕ) (s : State) (bs : List ℕ) → take (quota mode s bs) (take 64 bs) ≡ take (quota mode s bs) bs
-quota-take mode s bs = take-take (quota mode s bs) 64 bs (quota-most mode s bs .0)
+quota-take : (mode : ℕ) (s : State) (bs : List ℕ) → take (quota mode s bs) (take mostInTurn bs) ≡ take (quota mode s bs) bs
+quota-take mode s bs = take-take (quota mode s bs) mostInTurn bs (quota-most mode s bs .0)
 
 -- an answer is shown as the first of its list
-first-listed : (o : Option LineAnswer) → shownIf o ≡ firstShown (listed o)
+first-listed : (o : Option LineAnswer) → shownIf o ≡ firstEntry (map shown (listed o))
 first-listed none = refl
 first-listed (some a) = refl
 
@@ -138,13 +140,13 @@ closed-turn l h e =
 
 -- the turn of an open line
 open-turn : (l : StationLine) → Long l → isOpen l ≡ true
-    → TurnView l (turned l (fed 0 (l .state) (l .content) (take 64 (waiting l))))
+    → TurnView l (turned l (fed 0 (l .state) (l .content) (take mostInTurn (waiting l))))
 unfolding standsFor lineAfter turnTold waiting pick
 open-turn l h e =
     let mode = l .state .mode in
     let s = lineOf (l .state) (l .content) in
-    let f = fed 0 (l .state) (l .content) (take 64 (waiting l)) in
-    let v = fed-view 0 (l .state) (l .content) (take 64 (waiting l)) (h .content) in
+    let f = fed 0 (l .state) (l .content) (take mostInTurn (waiting l)) in
+    let v = fed-view 0 (l .state) (l .content) (take mostInTurn (waiting l)) (h .content) in
     let k : f .result .count ≡ quota mode s (waiting l) = omega (arith, v .count-is) in
     let most = quota-most mode s (waiting l) in
     let same = quota-take mode s (waiting l) in

@@ -1,6 +1,7 @@
 -- A turn of a closed line, and of an open one.
 use Prim.Native.Nat.{_-_, _≤_}
 use Rattle.station.proofs.Turns.{end-places, took-few, turn-closed, turn-open}
+use Rattle.station.specs.Lines.{mostInTurn}
 use Rattle.station.specs.Parts.{Waits}
 use Rattle.station.specs.Memory.{rowsBehind}
 use Rattle.station.specs.Laws.Views.{Long}
@@ -38,7 +39,7 @@ ends c = end-places (began (c .before)) (long (c .before)) _ _ (waits (c .before
 -- what is known of the places once the bytes are taken
 known : (c : tie.After-feed)
     → let span = ended (c .before .before) .before .span-of .result in
-    (span .from ≤ span .to) × (span .to ≤ 256) × (c .feed .result .count ≤ 64)
+    (span .from ≤ span .to) × (span .to ≤ 256) × (c .feed .result .count ≤ mostInTurn)
     × (c .feed .result .count ≤ span .to - span .from)
 known c =
     let at-end-of = ended (c .before .before) in
