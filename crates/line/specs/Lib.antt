@@ -3,8 +3,8 @@ pub mod Symbols
 pub mod Rules
 pub mod Lines
 pub mod Between
-pub mod ByBytes
 pub mod Entries
+pub mod ByBytes
 pub mod Numbers
 pub mod State
 pub mod Steps

@@ -1,7 +1,7 @@
 -- Calls one after the other, from the station with all lines closed, and what the callers saw of a line: the numbers
 -- returned, and the bytes of the sheets that they lent. What a call does is what the code's contracts say of it.
-use mathlib.Core.Bool.{Bool, true, false, not}
-use mathlib.Core.Option.{Option, none, some}
+use mathlib.Core.Bool.{Bool, true, false}
+use mathlib.Core.Option.{Option, none}
 use mathlib.Core.List.{List, [], _∷_, _++_}
 use Prim.Native.Nat.{ℕ, suc, _+_}
 use lib.Dec.{eqb, leb}

@@ -30,8 +30,8 @@ module _ {A : Type 0} where
   numberAs n (refused refusal) = numberOfRefusal refusal
   numberAs n (given a) = n
 
--- no refusal has the number of a value, 0 or 1
-pub refusal-number : (refusal : Refusal) → 2 ≤ numberOfRefusal refusal
+-- the numbers of refusals begin with 8: none is that of a value, 0 or 1, or of a frame's end
+pub refusal-number : (refusal : Refusal) → 8 ≤ numberOfRefusal refusal
 refusal-number TooLong = lit≤ tt
 refusal-number Misshapen = lit≤ tt
 refusal-number CheckWrong = lit≤ tt

@@ -1,14 +1,14 @@
 -- When an answer is an accepted group, by the bytes alone.
 use mathlib.Core.Path.{_≡_, refl, sym, ap, _∙_, subst}
 use mathlib.Core.Logic.{_↔_}
-use mathlib.Core.Bool.{Bool, true, false, not, _&&_, _||_}
+use mathlib.Core.Bool.{Bool, true, false, not}
 use mathlib.Core.Option.{Option, none, some}
 use mathlib.Core.List.{List, [], _∷_, map}
 use Prim.Native.Nat.{ℕ}
 use native.Mathlib.Omega.{arith}
 use lib.Dec.{T, eqb}
 use mir.Facts.{and-yes, yes-and}
-use Rattle.characters.specs.Answers.{refused, given, every, is-true, is-false, from-true, pick}
+use Rattle.characters.specs.Answers.{refused, given, every, is-true, from-true, pick}
 use Rattle.characters.specs.Wire.{isSound, characterOf, STX, ETX, EOT, LF, CR}
 use Rattle.groups.specs.Modes.{modeOf}
 use Rattle.groups.specs.Groups.{Group, groupOf}
@@ -18,9 +18,9 @@ use Rattle.groups.specs.Laws.Known.{mode-number}
 use Rattle.groups.specs.Laws.OnTheWire.{isPlain, arePlain}
 use Rattle.groups.specs.Laws.ByNumber.{judged-plain}
 use Rattle.groups.specs.declared.Mode.{Mode}
-use Rattle.line.specs.Symbols.{soundSymbol, symbolOf}
+use Rattle.line.specs.Symbols.{symbolOf}
 use Rattle.line.specs.Lines.{LineAnswer}
-use Rattle.line.specs.Between.{isInner, noControl, anyDamaged, textOf, groupAnswer}
+use Rattle.line.specs.Between.{isInner, noControl, anyDamaged, groupAnswer}
 use Rattle.line.specs.Entries.{Entry, accepted, only}
 use Rattle.line.specs.Numbers.{shown}
 use Rattle.line.specs.ByBytes.{
@@ -39,7 +39,6 @@ use Rattle.line.specs.Laws.Accepted.{accepted-exactly}
 use Rattle.line.specs.Laws.Written.{plain-text}
 use Rattle.line.specs.Laws.LookingBack.{is-at, ends-in-group, in-group}
 use Rattle.line.specs.Laws.GroupsByBytes.{damaged-all, text-all, group-shown, refused-number}
-use Rattle.line.specs.declared.Notice.{Notice}
 
 -- ---- The bytes of a right group
 

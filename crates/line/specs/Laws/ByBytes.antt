@@ -1,10 +1,10 @@
 -- The line's definition gives the answers that are due by the bytes alone.
 use mathlib.Core.Path.{_≡_, refl, sym, ap, _∙_}
-use mathlib.Core.Bool.{Bool, true, false, not, _&&_, _||_, or-true, or-false, or-assoc}
+use mathlib.Core.Bool.{Bool, true, false, _||_, or-true, or-false, or-assoc}
 use mathlib.Core.Option.{Option, none, some}
 use mathlib.Core.List.{List, [], _∷_, _++_, append-nil, map}
 use Prim.Native.Nat.{ℕ, suc}
-use lib.Dec.{T, eqb}
+use lib.Dec.{T}
 use lib.Seq.{append-snoc}
 use Rattle.characters.specs.Answers.{given, pick}
 use Rattle.characters.specs.Wire.{STX, ETX, EOT, LF, CR}
@@ -18,24 +18,8 @@ use Rattle.line.specs.Lines.{LineAnswer, State, Step, does, step, after,
 use Rattle.line.specs.Between.{noControl, isDamaged, anyDamaged, withText, textOf, groupAnswer}
 use Rattle.line.specs.Entries.{Entry, accepted, only, entryList}
 use Rattle.line.specs.Numbers.{shown, shownIf, numberOfNotice}
-use Rattle.line.specs.ByBytes.{
-  is,
-  openSince,
-  openFrame,
-  openGroup,
-  groupDue,
-  flaws,
-  flawedBehind,
-  isFlawed,
-  atEnd,
-  dueInGroup,
-  dueInFrame,
-  answerDue,
-  answersDue,
-  isAnswered,
-  upToAnswer,
-}
-use Rattle.line.specs.Laws.Bytes.{after-append, step-at}
+use Rattle.line.specs.ByBytes.{is, openSince, openFrame, openGroup, flaws, flawedBehind, isFlawed, dueInFrame, answerDue, answersDue, isAnswered, upToAnswer}
+use Rattle.line.specs.Laws.Bytes.{step-at}
 use Rattle.line.specs.Laws.Groups.{keeps, added-keeps, verdict-is}
 use Rattle.line.specs.Laws.Written.{written-sent}
 use Rattle.line.specs.Laws.LookingBack.{Tests, tests, more, open-more, ends-in-group}

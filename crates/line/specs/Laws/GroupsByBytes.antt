@@ -2,13 +2,13 @@
 use mathlib.Core.Path.{_≡_, refl, sym, ap, _∙_}
 use mathlib.Core.Logic.{_↔_}
 use mathlib.Core.Bool.{Bool, true, false, not, _&&_, _||_}
-use mathlib.Core.Option.{Option, none, some}
+use mathlib.Core.Option.{some}
 use mathlib.Core.List.{List, [], _∷_, map}
 use Prim.Native.Nat.{ℕ, _<_}
 use lib.Dec.{T, eqb, ltb, ltb→lt, T-not}
 use lib.ListN.{length, length-map}
 use native.Mathlib.Omega.{arith}
-use borrow.Author.Tests.{eq-eqb, eqb-true}
+use borrow.Author.Tests.{ne-eqb, eq-eqb, eqb-true}
 use mir.Facts.{and-yes}
 use Rattle.characters.specs.Answers.{Answer, refused, given, every, pick, by-pick, is-true, from-true, firstOf}
 use Rattle.characters.specs.Wire.{isSound, characterOf}
@@ -17,26 +17,17 @@ use Rattle.groups.specs.Groups.{Group}
 use Rattle.groups.specs.Judging.{judging}
 use Rattle.groups.specs.Numbers.{numberOfRefusal}
 use Rattle.groups.specs.Conditions.{conditions, fieldsAt}
+use Rattle.groups.specs.Laws.Named.{refusal-number}
 use Rattle.groups.specs.Laws.ByNumber.{accepted-due, refused-due}
 use Rattle.groups.specs.Laws.Known.{judged-long, never-seven, eight-long, eight-short}
 use Rattle.groups.specs.Laws.Tests.{split}
 use Rattle.groups.specs.declared.Mode.{Mode}
 use Rattle.groups.specs.declared.Refusal.{Refusal}
-use Rattle.groups.specs.declared.Refusal.the-variants.{
-  TooLong,
-  Misshapen,
-  CheckWrong,
-  LabelUnknown,
-  StampWrong,
-  WidthWrong,
-  KindWrong,
-  NoRoom,
-  ModeUnknown,
-}
+use Rattle.groups.specs.declared.Refusal.the-variants.{TooLong}
 use Rattle.line.specs.Symbols.{soundSymbol, symbolOf}
 use Rattle.line.specs.Lines.{LineAnswer, isRefused, ofGroup}
 use Rattle.line.specs.Between.{isInner, noControl, isDamaged, anyDamaged, withText, textOf, groupAnswer}
-use Rattle.line.specs.Entries.{Entry, accepted, only}
+use Rattle.line.specs.Entries.{accepted, only}
 use Rattle.line.specs.Numbers.{numberOfNotice, shown}
 use Rattle.line.specs.ByBytes.{numbered, groupDue}
 use Rattle.line.specs.declared.Notice.{Notice}
@@ -50,7 +41,7 @@ use Rattle.line.specs.declared.Notice.the-variants.{
   GroupRefused,
 }
 use Rattle.line.specs.declared.rules.Symbol.{Symbol}
-use Rattle.line.specs.declared.rules.Symbol.the-variants.{Stx, Etx, Eot, Lf, Cr, Damaged, Text}
+use Rattle.line.specs.declared.rules.Symbol.the-variants.{Damaged}
 
 -- ---- The bytes of a group
 
@@ -112,15 +103,7 @@ text-all (b ∷ bs) t i =
 -- a refusal is not numbered 1
 refusal-only : (r : Refusal) (g : Group) → numbered (numberOfRefusal r) g ≡ only (numberOfRefusal r)
 unfolding pick
-refusal-only TooLong g = refl
-refusal-only Misshapen g = refl
-refusal-only CheckWrong g = refl
-refusal-only LabelUnknown g = refl
-refusal-only StampWrong g = refl
-refusal-only WidthWrong g = refl
-refusal-only KindWrong g = refl
-refusal-only NoRoom g = refl
-refusal-only ModeUnknown g = refl
+refusal-only r g = rw (ne-eqb (numberOfRefusal r) 1 (λ e. omega (arith, refusal-number r)))
 
 -- what the groups' reader says of a content, with its number
 judged-shown : (mode : ℕ) (m : Mode) (c : List ℕ) → modeOf mode ≡ some m
@@ -167,15 +150,7 @@ refused-notice FrameInterrupted = refl
 refused-notice FrameRestarted = refl
 refused-notice GroupRestarted = refl
 refused-notice GroupDamaged = refl
-refused-notice (GroupRefused TooLong) = refl
-refused-notice (GroupRefused Misshapen) = refl
-refused-notice (GroupRefused CheckWrong) = refl
-refused-notice (GroupRefused LabelUnknown) = refl
-refused-notice (GroupRefused StampWrong) = refl
-refused-notice (GroupRefused WidthWrong) = refl
-refused-notice (GroupRefused KindWrong) = refl
-refused-notice (GroupRefused NoRoom) = refl
-refused-notice (GroupRefused ModeUnknown) = refl
+refused-notice (GroupRefused r) = rw (ne-eqb (numberOfRefusal r) 1 (λ e. omega (arith, refusal-number r)))
 
 pub refused-number : (a : LineAnswer) → isRefused a ≡ not (eqb (shown a .number) 1)
 refused-number (given g) = refl

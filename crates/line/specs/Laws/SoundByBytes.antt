@@ -1,44 +1,34 @@
 -- When an ETX says "frame sound", by the bytes alone.
-use mathlib.Core.Path.{_≡_, refl, sym, ap, _∙_, subst}
+use mathlib.Core.Path.{_≡_, refl, sym, ap, _∙_}
 use mathlib.Core.Logic.{_↔_}
-use mathlib.Core.Bool.{Bool, true, false, not, _||_}
+use mathlib.Core.Bool.{false, not, _||_}
 use mathlib.Core.Option.{Option, none, some}
 use mathlib.Core.List.{List, [], _∷_, _++_}
 use Prim.Native.Nat.{ℕ}
 use native.Mathlib.Omega.{arith}
 use lib.Dec.{T, eqb}
 use mir.Facts.{and-yes, or-no, eqb-yes}
-use Rattle.characters.specs.Answers.{refused, given, every-weaker, is-true, from-true, pick}
+use borrow.Author.Tests.{ne-eqb}
+use Rattle.characters.specs.Answers.{refused, given, every-weaker, is-true, pick}
 use Rattle.characters.specs.Wire.{isSound, characterOf, STX, ETX, EOT, LF, CR}
 use Rattle.groups.specs.Modes.{modeOf}
-use Rattle.groups.specs.Groups.{Group}
+use Rattle.groups.specs.Numbers.{numberOfRefusal}
+use Rattle.groups.specs.Laws.Named.{refusal-number}
 use Rattle.groups.specs.Laws.Known.{mode-number}
 use Rattle.groups.specs.declared.Mode.{Mode}
-use Rattle.groups.specs.declared.Refusal.the-variants.{
-  TooLong,
-  Misshapen,
-  CheckWrong,
-  LabelUnknown,
-  StampWrong,
-  WidthWrong,
-  KindWrong,
-  NoRoom,
-  ModeUnknown,
-}
 use Rattle.line.specs.Symbols.{soundSymbol, symbolOf}
 use Rattle.line.specs.Lines.{LineAnswer, State, step, after, outside, inFrame}
-use Rattle.line.specs.Between.{isStx, noControl, noStx, groupAnswer, SoundFrame}
+use Rattle.line.specs.Between.{isStx, groupAnswer, SoundFrame}
 use Rattle.line.specs.Between as between
-use Rattle.line.specs.Entries.{Entry, only}
+use Rattle.line.specs.Entries.{only}
 use Rattle.line.specs.Numbers.{shown, shownIf}
-use Rattle.line.specs.ByBytes.{is, openFrame, groupDue, answerDue, RightFrame, empty, group}
+use Rattle.line.specs.ByBytes.{is, openFrame, answerDue, RightFrame, empty, group}
 use Rattle.line.specs.Laws.Bytes.{after-append}
 use Rattle.line.specs.Laws.Frames.{stx-restarts, frame-sound}
 use Rattle.line.specs.Laws.LookingBack.{isAs, tests, passes, opened}
 use Rattle.line.specs.Laws.GroupsByBytes.{group-shown}
 use Rattle.line.specs.Laws.ByBytes.{answer-by-bytes}
 use Rattle.line.specs.Laws.AcceptedByBytes.{shown-given, group-right, right-group}
-use Rattle.line.specs.declared.Notice.{Notice}
 use Rattle.line.specs.declared.Notice.the-variants.{
   FrameSound,
   FrameFlawed,
@@ -139,15 +129,8 @@ is-two (refused FrameInterrupted) t = absurd t
 is-two (refused FrameRestarted) t = absurd t
 is-two (refused GroupRestarted) t = absurd t
 is-two (refused GroupDamaged) t = absurd t
-is-two (refused (GroupRefused TooLong)) t = absurd t
-is-two (refused (GroupRefused Misshapen)) t = absurd t
-is-two (refused (GroupRefused CheckWrong)) t = absurd t
-is-two (refused (GroupRefused LabelUnknown)) t = absurd t
-is-two (refused (GroupRefused StampWrong)) t = absurd t
-is-two (refused (GroupRefused WidthWrong)) t = absurd t
-is-two (refused (GroupRefused KindWrong)) t = absurd t
-is-two (refused (GroupRefused NoRoom)) t = absurd t
-is-two (refused (GroupRefused ModeUnknown)) t = absurd t
+is-two (refused (GroupRefused r)) t =
+    absurd (rw (ne-eqb (numberOfRefusal r) 2 (λ e. omega (arith, refusal-number r))) at t)
 
 two-sound : (o : Option LineAnswer) → (shownIf o ≡ some (only 2)) ↔ (o ≡ some (refused FrameSound))
 two-sound o = (go o, λ e. ap shownIf e)

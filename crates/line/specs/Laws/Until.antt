@@ -6,7 +6,7 @@ use Prim.Native.Nat.{ℕ, _≤_, _<_}
 use native.Mathlib.Omega.{arith}
 use lib.ListN.{length, take}
 use Rattle.line.specs.Lines.{LineAnswer, State, step, after, answers, onward, untilAnswer}
-use Rattle.line.specs.Entries.{Entry, firstEntry}
+use Rattle.line.specs.Entries.{firstEntry}
 use Rattle.line.specs.Numbers.{shown}
 
 -- no bytes leave the line as it is
