@@ -3,6 +3,23 @@
  * Link with target/staticlib/libespandim.a, which `rt staticlib espandim` makes for x86-64 Linux; of the C library it needs
  * memcpy and nothing else. The numbers are those of the table in document 01, the customer's scope page.
  * crates/espandim/src/lib.rt has the contracts: each answer, and every byte that is lent, is fixed for every input.
+ * This header needs C11 or C++11, and nothing beyond them where there are a stddef.h and a stdint.h.
+ *
+ * On aarch64 the machine's own compiler can't link that archive; the kit's can, without the headers of a C library, and the
+ * program runs under the kit's emulator (examples/c/run). For a program with stdio there, `bindings/rust/native-archive
+ * FOLDER` compiles the same module for the machine at hand: link with FOLDER/libespandim.a. Of that step nothing is proved.
+ *
+ * The way to use it (README.md has the lines, which the gate runs): open each line once; deliver what comes off its wire, at
+ * most 256 bytes at a time; after each delivery, refused or not, call rounds until all eight counts are 0; what was refused
+ * by 15 is handed in again then.
+ *
+ * The port: eight data bits, no parity, one stop bit, and raw, so that nothing is translated. The top bit of each byte is
+ * the meter's own parity bit, and is delivered with it. A port that is set to seven bits and even parity strips it: STX
+ * comes as 0x02 instead of 0x82, no frame ever begins, and there is no answer at all. The speed is 9600 baud in standard
+ * mode (document 001, 5.3.5) and 1200 in historic mode (document 003, 1.3.1.1; but a SAPHIR may be set to 9600, and, by
+ * 1.4, a PME-PMI to 1200, 2400, 4800, 9600 or 19200). On Linux, `stty -F /dev/ttyUSB0 raw -echo 9600 cs8 -parenb -cstopb`,
+ * or with 1200; in the flags of termios: CS8 and CREAD set, and PARENB, CSTOPB, INPCK, ISTRIP, IGNPAR, PARMRK, ICRNL, INLCR,
+ * IGNCR, IXON, IXOFF, ICANON, ECHO, ISIG, IEXTEN and OPOST not set.
  *
  * What the caller owes, since no proof can see to it:
  *  - No pointer is null, not even one to no bytes at all: hand in any address of your own with a length of 0.
@@ -12,6 +29,8 @@
  *    the same call. Label, stamp and data may overlap each other.
  *  - Nobody else touches what is lent while the call runs. The functions keep no state of their own and no pointer:
  *    two stations can be used at the same time.
+ *  - A number of a line or a mode has 32 bits. C cuts a longer one before the call, and 4,294,967,296 arrives as 0: compare
+ *    it before it is cut.
  *
  * A refused call changes no byte of a station, a sheet or a buffer. Counts, stretches and *written are places for results,
  * as the returned number is: every call sets them, a refused one to zeros.
@@ -20,19 +39,19 @@
 #define ESPANDIM_H
 
 #if defined(__has_include)
-#if __has_include(<stdint.h>) && __has_include(<stddef.h>)
-#define ESPANDIM_HAS_HEADERS
+#if !__has_include(<stddef.h>) || !__has_include(<stdint.h>)
+#define ESPANDIM_NO_HEADERS
 #endif
 #endif
 
-#ifdef ESPANDIM_HAS_HEADERS
-#include <stddef.h>
-#include <stdint.h>
-#else /* a bare compiler, as the kit's own: its own names of the same types */
+#ifdef ESPANDIM_NO_HEADERS /* a bare compiler, as the kit's own: its own names (those of gcc and clang) of the same types */
 typedef __SIZE_TYPE__ size_t;
 typedef __UINT8_TYPE__ uint8_t;
 typedef __UINT16_TYPE__ uint16_t;
 typedef __UINT32_TYPE__ uint32_t;
+#else
+#include <stddef.h>
+#include <stdint.h>
 #endif
 
 #ifdef __cplusplus
@@ -46,7 +65,7 @@ extern "C" {
 #define ESPANDIM_INBOX 256           /* bytes that can wait on a line */
 #define ESPANDIM_MOST_CONTENT 128    /* characters of a group's content */
 #define ESPANDIM_SMALLEST_SHEET 1080 /* bytes of a sheet that can hold every round */
-#define ESPANDIM_MOST_WRITTEN 130    /* bytes of the longest group that is written: LF, content and CR */
+#define ESPANDIM_MOST_WRITTEN 130    /* bytes, enough for every group: LF, content and CR; the longest, PJOURF+1, has 111 */
 
 #define ESPANDIM_HISTORIC 0
 #define ESPANDIM_STANDARD 1
@@ -75,10 +94,40 @@ enum espandim_number {
     ESPANDIM_MODE_UNKNOWN = 19
 };
 
+/* What a number of the table means, in English; 20 is a listing's. Every other number has words too, the last ones here. */
+static inline const char *espandim_words(uint32_t number) {
+    static const char *const words[] = {
+        "a call that is not refused",
+        "group accepted",
+        "frame ended, unflawed",
+        "frame ended, flawed",
+        "frame interrupted by EOT",
+        "STX before the frame ended",
+        "LF inside a group",
+        "a damaged byte in the group",
+        "content over 128",
+        "no separators where they must be, or under 4 characters",
+        "check character wrong",
+        "label not in the mode's list",
+        "stamp not right",
+        "data not of the width",
+        "a data character not of the kind",
+        "inbox or lent buffer too short for all",
+        "line number 8 or more",
+        "delivery to a closed line",
+        "sheet under 1,080 bytes",
+        "mode not 0 or 1",
+        "capture empty or not begun by H or S",
+        "not a number of the table",
+    };
+    return words[number <= 20 ? number : 21];
+}
+
 /* The station: four arrays, with a row for each line, 3,168 bytes in all and none of them padding. It is there so that a
  * caller can set a station's memory aside, and copy it as a value; only the functions below read and write what is in it.
  * Memory of zeros is the station with all lines closed: `struct espandim_station station = {0};` or memset. No bytes are
- * a wrong station: whatever lies in it, each call has one fixed answer and stays inside. */
+ * a wrong station: whatever lies in it, each call has one fixed answer and stays inside. What is promised of answers
+ * is promised of a station that was zeros and that only the functions below have written. */
 struct espandim_station {
     uint8_t marks[ESPANDIM_LINES][6];   /* opened, mode, phase, flaw, damaged, overlong */
     uint16_t places[ESPANDIM_LINES][3]; /* length of the content, first waiting byte, count of waiting bytes */
@@ -99,7 +148,8 @@ uint32_t espandim_rows_deliver(const uint8_t *marks, uint16_t *places, const uin
 uint32_t espandim_rows_round(uint8_t *marks, uint16_t *places, uint8_t *contents, const uint8_t *inboxes, uint8_t *sheet,
                              size_t length, uint8_t *counts);
 
-/* Opens a line in a mode, whether it was open or not: its inbox is empty then, and the line outside of every frame.
+/* Opens a line in a mode, whether it was open or not: its inbox is empty then, and the line outside of every frame. So
+ * open a line once: an opening before each delivery would drop what waits, and the frame that has begun.
  *   0   opened
  *   16  line is 8 or more
  *   19  mode is neither 0 (historic) nor 1 (standard)
@@ -112,7 +162,8 @@ static inline uint32_t espandim_open(struct espandim_station *station, uint32_t 
  *   0   added, also where there were none to add
  *   16  line is 8 or more
  *   17  the line is closed
- *   15  the inbox has no room for all of them; a round makes room
+ *   15  the inbox has no room for all of them: rounds make room, and the same bytes are handed in again then; more than
+ *       256 (ESPANDIM_INBOX) are refused however often they are tried, so cut them
  * The first that holds is given; 16, 17 and 15 change nothing. */
 static inline uint32_t espandim_deliver(struct espandim_station *station, uint32_t line, const uint8_t *bytes,
                                         size_t length) {
@@ -125,14 +176,41 @@ static inline uint32_t espandim_deliver(struct espandim_station *station, uint32
  *   bytes 0 to 7    how many bytes the turn of each line took
  *   bytes 8 to 23   for each line where its entry starts, two bytes, low byte first; 0 where it has no answer
  *   from byte 24    the entries: the answer's number (1 to 14), the lengths of label, stamp and data, and these three;
- *                   all but 1 have three zeros and no text
+ *                   all but 1 have three zeros and no text. In memory that no call made a line's mode may be none: then
+ *                   its groups have the number 19
  * The bytes behind the last entry stay as they were. The counts are set to how many bytes each turn took.
  *   0   done
- *   18  the sheet has under 1,080 bytes: no byte was taken and nothing changed, the sheet included; the counts are zeros */
+ *   18  the sheet has under 1,080 bytes: no byte was taken and nothing changed, the sheet included; the counts are zeros
+ *
+ * How often: until all eight counts are 0 (espandim_idle), after each delivery. A turn ends at each answer, so a noisy line
+ * may give one byte a round, and one round for each delivery leaves answers behind and fills the inbox. Where bytes wait
+ * on a line its turn takes at least one, so all 256 that can wait are taken within 256 rounds, and the 257th at the latest
+ * takes nothing. More closely: n bytes that complete k answers are taken within n/64, rounded up, plus k rounds
+ * (`taken-in-time` in crates/station/specs/Demands.antt). With rounds by the clock instead, as many are needed as bytes can
+ * come on one line: 960 a second at 9600 baud, 120 at 1200. */
 static inline uint32_t espandim_round(struct espandim_station *station, uint8_t *sheet, size_t length,
                                       uint8_t counts[ESPANDIM_LINES]) {
     return espandim_rows_round(station->marks[0], station->places[0], station->contents[0], station->inboxes[0], sheet,
                                length, counts);
+}
+
+/* Whether a round has taken nothing: all eight counts are 0. Where it was not refused, no byte waits on an open line then. */
+static inline int espandim_idle(const uint8_t counts[ESPANDIM_LINES]) {
+    uint32_t line;
+    for (line = 0; line < ESPANDIM_LINES; line++) {
+        if (counts[line] != 0) {
+            return 0;
+        }
+    }
+    return 1;
+}
+
+/* The entry of a line on a sheet that a round has written, or that is zeros yet: entry[0] is the number, entry[1], entry[2]
+ * and entry[3] are the lengths of label, stamp and data, which follow from entry + 4 on. A null pointer where the line has
+ * no answer, or is 8 or more. */
+static inline const uint8_t *espandim_entry(const uint8_t *sheet, uint32_t line) {
+    uint32_t offset = line < ESPANDIM_LINES ? sheet[8 + 2 * line] + 256u * sheet[9 + 2 * line] : 0;
+    return offset == 0 ? 0 : sheet + offset;
 }
 
 /* Judges the content of one group, what stands between LF and CR, in characters with no parity bit. The stretches are
@@ -166,6 +244,6 @@ uint32_t espandim_write(uint32_t mode, const uint8_t *label, size_t label_length
 }
 #endif
 #undef ESPANDIM_ASSERT
-#undef ESPANDIM_HAS_HEADERS
+#undef ESPANDIM_NO_HEADERS
 
 #endif

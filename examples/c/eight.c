@@ -124,12 +124,12 @@ int main(int count, char **arguments) {
         }
         espandim_round(&station, sheet, sizeof sheet, counts);
         for (line = 0; line < lines; line++) {
-            size_t offset = sheet[8 + 2 * line] + 256u * sheet[9 + 2 * line];
-            if (offset > 0) {
-                show_entry(line, sheet + offset);
+            const uint8_t *entry = espandim_entry(sheet, line);
+            if (entry) {
+                show_entry(line, entry);
             }
-            more |= counts[line] > 0;
         }
+        more |= !espandim_idle(counts);
     }
     return 0;
 }

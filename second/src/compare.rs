@@ -274,7 +274,7 @@ fn tally_history(log: &[u8], replies: &[Reply], tally: &mut Tally) {
                     }
                 }
             }
-            Reply::Unreadable => tally.unreadable_logs += 1,
+            Reply::Unreadable(_) => tally.unreadable_logs += 1,
         }
     }
 }
@@ -587,7 +587,11 @@ fn print_tally(captures: u64, histories: u64, tally: &Tally) {
         }
         report.push_str(&format!(" {:>9}\n", seen.iter().sum::<u64>()));
     }
-    report.push_str("labels accepted or written, standard of 71 and historic of 34:\n");
+    report.push_str(&format!(
+        "labels accepted or written, standard of {} and historic of {}:\n",
+        all_rules(Mode::Standard).len(),
+        all_rules(Mode::Historic).len()
+    ));
     for (place, name) in PLACES {
         if let Some(labels) = tally.labels_accepted.get(&place) {
             let of_mode = |mode| labels.iter().filter(|(one, _)| *one == mode).count();

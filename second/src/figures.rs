@@ -10,7 +10,7 @@ use crate::listing::listing;
 use crate::numbers::{number_of_call, Answer, Refusal};
 use crate::replay::{read_log, replay, replies_to, Call};
 use crate::station::{counts_of, Station, LINES};
-use crate::table::{all_rules, find_rule, Kind, Mode, Season};
+use crate::table::{all_rules, find_rule, labels_said, Kind, Mode, Season};
 use crate::wire::{all_to_wire, character_of, is_sound, to_wire};
 
 const HISTORIC: u8 = 0;
@@ -153,17 +153,22 @@ fn wire_bytes_of_the_control_characters() {
 // "One group"
 
 #[test]
-fn lists_have_71_and_34_labels() {
-    assert_eq!(all_rules(Mode::Standard).len(), 71);
-    assert_eq!(all_rules(Mode::Historic).len(), 34);
-    let stamped = |mode| {
-        all_rules(mode)
-            .iter()
-            .filter(|rule| rule.stamp.is_some())
-            .count()
-    };
-    assert_eq!(stamped(Mode::Standard), 24);
-    assert_eq!(stamped(Mode::Historic), 0);
+fn lists_have_as_many_labels_as_they_say() {
+    for mode in [Mode::Historic, Mode::Standard] {
+        assert_eq!(all_rules(mode).len(), labels_said(mode), "{mode:?}");
+    }
+}
+
+#[test]
+fn labels_that_are_stamped() {
+    let families = ["DATE", "SMAX", "CCA", "UMOY", "DPM", "FPM"];
+    for rule in all_rules(Mode::Standard) {
+        let stamped = families.iter().any(|name| rule.label.starts_with(name));
+        assert_eq!(rule.stamp.is_some(), stamped, "{}", rule.label);
+    }
+    for rule in all_rules(Mode::Historic) {
+        assert_eq!(rule.stamp, None, "{}", rule.label);
+    }
 }
 
 #[test]
@@ -957,19 +962,23 @@ fn replies_have_their_form() {
     );
 }
 
+/// docs/REPLAY.md: "`?`, its number, the offset of its first byte, and why".
 #[test]
 fn unreadable_logs() {
     assert_eq!(replay(b""), "");
-    assert_eq!(replay(b"X"), "?\n");
-    assert_eq!(replay(b"O\x00\x00X"), "O 0\n?\n");
-    assert_eq!(replay(b"O\x00"), "?\n");
-    assert_eq!(replay(b"R\x01\x10\x00"), "?\n");
-    assert_eq!(replay(b"D\x00\x02\x00A"), "?\n");
-    assert_eq!(replay(b"XO\x00\x00"), "?\n");
+    assert_eq!(replay(b"X"), "? 1 0 unknown letter\n");
+    assert_eq!(replay(b"O\x00\x00X"), "O 0\n? 2 3 unknown letter\n");
+    assert_eq!(replay(b"O\x00"), "? 1 0 cut short\n");
+    assert_eq!(replay(b"R\x01\x10\x00"), "? 1 0 length over 4096\n");
+    assert_eq!(replay(b"R\x01"), "? 1 0 cut short\n");
+    assert_eq!(replay(b"D\x00\x02\x00A"), "? 1 0 cut short\n");
+    assert_eq!(replay(b"XO\x00\x00"), "? 1 0 unknown letter\n");
     let long = [&b"J\x01\x00\x10"[..], &[b'A'; 4096]].concat();
     assert_eq!(replay(&long), "J 8 - - -\n");
+    let two = [&long[..], b"O\x08\x00", b"W\x01\x05URM"].concat();
+    assert_eq!(replay(&two), "J 8 - - -\nO 16\n? 3 4103 cut short\n");
     let too_long = [&b"J\x01\x01\x10"[..], &[b'A'; 4097]].concat();
-    assert_eq!(replay(&too_long), "?\n");
+    assert_eq!(replay(&too_long), "? 1 0 length over 4096\n");
     assert!(replay(b"R\x00\x10\x00").starts_with("R 0 0 0 0 0 0 0 0 0 0000"));
 }
 

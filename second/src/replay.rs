@@ -87,38 +87,58 @@ fn low_byte_first(number: usize) -> [u8; 2] {
         .to_le_bytes()
 }
 
-/// A log, read whole: its calls, and whether something unreadable followed.
+/// Why something is no record, in the words of docs/REPLAY.md.
+pub type Why = &'static str;
+
+const UNKNOWN_LETTER: Why = "unknown letter";
+const LENGTH_OVER: Why = "length over 4096";
+const CUT_SHORT: Why = "cut short";
+
+/// What is no record: "its number, from 1", "the offset of its first byte,
+/// from 0", and why.
+#[derive(Clone, Copy, Debug, PartialEq, Eq)]
+pub struct NoRecord {
+    pub number: usize,
+    pub offset: usize,
+    pub why: Why,
+}
+
+/// A log, read whole: its calls, and the unreadable thing that followed, if
+/// one did.
 #[derive(Clone, Debug, PartialEq, Eq)]
 pub struct Log {
     pub calls: Vec<Call>,
-    pub ends_unreadably: bool,
+    pub unreadable: Option<NoRecord>,
 }
 
-/// Reads a whole log. "A length over 4,096, an unknown letter or a record cut
-/// short prints `?` and ends."
+/// Reads a whole log. "Where something is no record, the program says so in a
+/// line and ends."
 pub fn read_log(bytes: &[u8]) -> Log {
     let mut left = bytes;
     let mut calls = Vec::new();
     while !left.is_empty() {
+        let offset = bytes.len() - left.len();
         match read_call(&mut left) {
-            Some(call) => calls.push(call),
-            None => {
-                return Log {
-                    calls,
-                    ends_unreadably: true,
-                }
+            Ok(call) => calls.push(call),
+            Err(why) => {
+                let unreadable = Some(NoRecord {
+                    number: calls.len() + 1,
+                    offset,
+                    why,
+                });
+                return Log { calls, unreadable };
             }
         }
     }
     Log {
         calls,
-        ends_unreadably: false,
+        unreadable: None,
     }
 }
 
-fn read_call(left: &mut &[u8]) -> Option<Call> {
+fn read_call(left: &mut &[u8]) -> Result<Call, Why> {
     match take_byte(left)? {
-        b'O' => Some(Call::Open {
+        b'O' => Ok(Call::Open {
             line: take_byte(left)?,
             mode: take_byte(left)?,
         }),
@@ -126,9 +146,9 @@ fn read_call(left: &mut &[u8]) -> Option<Call> {
             let line = take_byte(left)?;
             let length = take_length(left)?;
             let bytes = take_bytes(left, length)?;
-            Some(Call::Deliver { line, bytes })
+            Ok(Call::Deliver { line, bytes })
         }
-        b'R' => Some(Call::Round {
+        b'R' => Ok(Call::Round {
             size: take_length(left)?,
             fill: take_byte(left)?,
         }),
@@ -136,9 +156,9 @@ fn read_call(left: &mut &[u8]) -> Option<Call> {
             let mode = take_byte(left)?;
             let length = take_length(left)?;
             let content = take_bytes(left, length)?;
-            Some(Call::Judge { mode, content })
+            Ok(Call::Judge { mode, content })
         }
-        b'W' => Some(Call::Write {
+        b'W' => Ok(Call::Write {
             mode: take_byte(left)?,
             label: take_field(left)?,
             stamp: take_field(left)?,
@@ -146,35 +166,39 @@ fn read_call(left: &mut &[u8]) -> Option<Call> {
             size: take_length(left)?,
             fill: take_byte(left)?,
         }),
-        _ => None,
+        _ => Err(UNKNOWN_LETTER),
     }
 }
 
-fn take_byte(left: &mut &[u8]) -> Option<u8> {
-    let (first, rest) = left.split_first()?;
+fn take_byte(left: &mut &[u8]) -> Result<u8, Why> {
+    let (first, rest) = left.split_first().ok_or(CUT_SHORT)?;
     *left = rest;
-    Some(*first)
+    Ok(*first)
 }
 
-fn take_bytes(left: &mut &[u8], count: usize) -> Option<Vec<u8>> {
+fn take_bytes(left: &mut &[u8], count: usize) -> Result<Vec<u8>, Why> {
     if left.len() < count {
-        return None;
+        return Err(CUT_SHORT);
     }
     let (taken, rest) = left.split_at(count);
     *left = rest;
-    Some(taken.to_vec())
+    Ok(taken.to_vec())
 }
 
-fn take_field(left: &mut &[u8]) -> Option<Vec<u8>> {
+fn take_field(left: &mut &[u8]) -> Result<Vec<u8>, Why> {
     let length = take_byte(left)?;
     take_bytes(left, usize::from(length))
 }
 
-fn take_length(left: &mut &[u8]) -> Option<usize> {
+fn take_length(left: &mut &[u8]) -> Result<usize, Why> {
     let low = take_byte(left)?;
     let high = take_byte(left)?;
     let length = usize::from(u16::from_le_bytes([low, high]));
-    (length <= LONGEST_LENGTH).then_some(length)
+    if length <= LONGEST_LENGTH {
+        Ok(length)
+    } else {
+        Err(LENGTH_OVER)
+    }
 }
 
 /// What a call gave.
@@ -202,7 +226,7 @@ pub enum Reply {
         written: usize,
         buffer: Vec<u8>,
     },
-    Unreadable,
+    Unreadable(NoRecord),
 }
 
 impl Reply {
@@ -235,7 +259,11 @@ impl Reply {
                 written,
                 buffer,
             } => format!("W {number} {written} {}", hexadecimal(buffer)),
-            Reply::Unreadable => "?".to_string(),
+            Reply::Unreadable(NoRecord {
+                number,
+                offset,
+                why,
+            }) => format!("? {number} {offset} {why}"),
         }
     }
 
@@ -336,9 +364,7 @@ pub fn replies_to(log_bytes: &[u8]) -> Vec<Reply> {
         .iter()
         .map(|call| perform(&mut station, call))
         .collect();
-    if log.ends_unreadably {
-        replies.push(Reply::Unreadable);
-    }
+    replies.extend(log.unreadable.map(Reply::Unreadable));
     replies
 }
 

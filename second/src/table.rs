@@ -87,8 +87,9 @@ pub struct Rule {
     pub stamp: Option<Season>,
 }
 
-/// "Standard mode, 71 labels", as document 01 writes them.
-const STANDARD_SENTENCE: &str = "ADSC T12; VTIC T2; DATE* T0; NGTF, LTARF T16; \
+/// The list of standard mode, as document 01 writes it.
+const STANDARD_SENTENCE: &str = "Standard mode, 71 labels: \
+ADSC T12; VTIC T2; DATE* T0; NGTF, LTARF T16; \
 EAST, EAIT, EASF01 to EASF10, EASD01 to EASD04, ERQ1 to ERQ4 N9; \
 IRMS1 to IRMS3, URMS1 to URMS3 N3; PREF, PCOUP N2; \
 SINSTS, SINSTS1 to SINSTS3, SINSTI N5; \
@@ -97,23 +98,42 @@ CCASN*, CCASN-1*, CCAIN*, CCAIN-1* N5; UMOY1* to UMOY3* N3; STGE X8; \
 DPM1* to DPM3*, FPM1* to FPM3* N2; MSG1 T32; MSG2 T16; PRM T14; RELAIS N3; \
 NTARF, NJOURF, NJOURF+1 N2; PJOURF+1, PPOINTE T98";
 
-/// "Historic mode, 34 labels", as document 01 writes them.
-const HISTORIC_SENTENCE: &str = "ADCO T12; OPTARIF, PTEC, DEMAIN T4; ISOUSC, PEJP N2; \
+/// The list of historic mode, as document 01 writes it.
+const HISTORIC_SENTENCE: &str = "Historic mode, 34 labels: \
+ADCO T12; OPTARIF, PTEC, DEMAIN T4; ISOUSC, PEJP N2; \
 BASE, HCHC, HCHP, EJPHN, EJPHPM, BBRHCJB, BBRHPJB, BBRHCJW, BBRHPJW, BBRHCJR, BBRHPJR N9; \
 IINST, IINST1 to IINST3, ADPS, ADIR1 to ADIR3, IMAX, IMAX1 to IMAX3 N3; PAPP, PMAX N5; \
 HHPHC T1; MOTDETAT T6; PPOT T2";
+
+/// The sentence of a mode: how many labels it says that there are, and its
+/// list of them.
+fn sentence_of(mode: Mode) -> (usize, &'static str) {
+    let sentence = match mode {
+        Mode::Standard => STANDARD_SENTENCE,
+        Mode::Historic => HISTORIC_SENTENCE,
+    };
+    let (heading, list) = sentence.split_once(": ").expect("a heading and a list");
+    let count = heading.split(' ').find_map(|word| word.parse().ok());
+    (count.expect("the heading has a number"), list)
+}
+
+/// How many labels document 01 says that a mode has.
+pub fn labels_said(mode: Mode) -> usize {
+    sentence_of(mode).0
+}
 
 type RulesByLabel = BTreeMap<Vec<u8>, Rule>;
 
 fn rules_by_label(mode: Mode) -> &'static RulesByLabel {
     static STANDARD: OnceLock<RulesByLabel> = OnceLock::new();
     static HISTORIC: OnceLock<RulesByLabel> = OnceLock::new();
-    let (place, sentence) = match mode {
-        Mode::Standard => (&STANDARD, STANDARD_SENTENCE),
-        Mode::Historic => (&HISTORIC, HISTORIC_SENTENCE),
+    let place = match mode {
+        Mode::Standard => &STANDARD,
+        Mode::Historic => &HISTORIC,
     };
     place.get_or_init(|| {
-        expand_sentence(sentence)
+        let (_, list) = sentence_of(mode);
+        expand_list(list)
             .into_iter()
             .map(|rule| (rule.label.clone().into_bytes(), rule))
             .collect()
@@ -130,11 +150,11 @@ pub fn all_rules(mode: Mode) -> Vec<&'static Rule> {
     rules_by_label(mode).values().collect()
 }
 
-/// Expands a sentence: stretches parted by semicolons, each a row of labels
-/// and at its end the kind and width that all of them have.
-fn expand_sentence(sentence: &str) -> Vec<Rule> {
+/// Expands a list: stretches parted by semicolons, each a row of labels and
+/// at its end the kind and width that all of them have.
+fn expand_list(list: &str) -> Vec<Rule> {
     let mut rules = Vec::new();
-    for stretch in sentence.split(';') {
+    for stretch in list.split(';') {
         let (labels, form) = stretch
             .trim()
             .rsplit_once(' ')

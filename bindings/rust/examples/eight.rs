@@ -93,7 +93,7 @@ fn print_answers(paths: &[PathBuf], out: &mut impl Write) -> io::Result<()> {
         for (line, answer) in &round {
             writeln!(out, "{line} {answer}")?;
         }
-        more |= round.counts() != [0; LINES];
+        more |= !round.is_idle();
     }
     out.flush()
 }

@@ -7,7 +7,7 @@ use core::fmt;
 /// How many characters a group's content may have.
 pub const MOST_CONTENT: usize = 128;
 
-/// How many bytes the longest group that is written has: LF, content and CR.
+/// Bytes that are enough for every group: LF, content and CR. The longest that is written, a `PJOURF+1`, has 111.
 pub const MOST_WRITTEN: usize = MOST_CONTENT + 2;
 
 /// The fields of an accepted group, as parts of the content that was judged.

@@ -8,24 +8,52 @@
 //!
 //! "Document 01" is the customer's scope page. Its numbers are the numbers of [`Answer`], [`Notice`] and [`Refusal`].
 //!
+//! # The way to use it
+//!
+//! Open each line once. Deliver what comes off its wire, at most 256 bytes at a time; after each delivery, refused or not,
+//! call rounds until one takes nothing; what was refused with [`Refusal::NoRoom`] is handed in again then. Whoever leaves
+//! by `?` at a delivery that finds no room, before the rounds that would make it, hears nothing ever after. The README of
+//! the repository has the lines for bytes that come in chunks of any size.
+//!
 //! ```
-//! use espandim::{Answer, Mode, Notice, Station};
+//! use espandim::{Mode, Station};
 //!
 //! let mut station = Station::new();
 //! station.open(0, Mode::Standard)?;
-//! station.deliver(0, b"\x82\x0A\x55\xD2\x4D\x53\xB1\x09\xB2\x33\x30\x09\x3F\x8D\x03")?;
 //!
-//! // A turn ends with the byte that gives an answer: the group's last byte in this round, the frame's in the next one.
-//! let round = station.round();
-//! assert_eq!(round.counts(), [14, 0, 0, 0, 0, 0, 0, 0]);
-//! for (line, answer) in &round {
-//!     assert_eq!(line, 0);
-//!     assert_eq!(answer, Answer::Accepted { label: b"URMS1", stamp: b"", data: b"230" });
-//!     assert_eq!(answer.to_string(), "1 URMS1 - 230");
+//! let mut answers = Vec::new();
+//! station.deliver(0, b"\x82\x0A\x55\xD2\x4D\x53\xB1\x09\xB2\x33\x30\x09\x3F\x8D\x03")?; // nothing waits: there is room
+//! loop {
+//!     let round = station.round();
+//!     answers.extend(round.answers().map(|(line, answer)| format!("{line} {answer}")));
+//!     if round.is_idle() {
+//!         break;
+//!     }
 //! }
-//! assert_eq!(station.round().answer(0), Some(Answer::Told(Notice::FrameSound)));
+//! // A turn ends with the byte that gives an answer: the group's last byte in one round, the frame's in the next one.
+//! assert_eq!(answers, ["0 1 URMS1 - 230", "0 2"]);
+//! assert_eq!(espandim::words(2), Some("frame ended, unflawed"));
 //! # Ok::<(), espandim::Refusal>(())
 //! ```
+//!
+//! # The port
+//!
+//! Eight data bits, no parity, one stop bit, and raw, so that nothing is translated. The top bit of each byte is the
+//! meter's own parity bit, and is delivered with it. A port that is set to seven bits and even parity strips it: STX comes
+//! as 0x02 instead of 0x82, no frame ever begins, and there is no answer at all. The speed is 9600 baud in standard mode
+//! (document 001, 5.3.5) and 1200 in historic mode (document 003, 1.3.1.1; a SAPHIR or a PME-PMI may be set otherwise). On
+//! Linux: `stty -F /dev/ttyUSB0 raw -echo 9600 cs8 -parenb -cstopb`, or with 1200. In the flags of termios: CS8 and CREAD
+//! set, and PARENB, CSTOPB, INPCK, ISTRIP, IGNPAR, PARMRK, ICRNL, INLCR, IGNCR, IXON, IXOFF, ICANON, ECHO, ISIG, IEXTEN and
+//! OPOST not set.
+//!
+//! # The archive
+//!
+//! A program is linked with `libespandim.a`, from the folder that the environment variable `ESPANDIM_ARCHIVE_FOLDER` names
+//! when cargo runs; `cargo check` and `cargo doc` do without one. `rt staticlib espandim` makes it for x86-64, in
+//! target/staticlib. For another processor `bindings/rust/native-archive FOLDER` compiles the same module; of that step
+//! nothing is proved.
+//!
+//! # What a caller does not owe
 //!
 //! What a caller in C has to see to is refused by the compiler here. A buffer that overlaps what is read:
 //!
@@ -63,6 +91,6 @@ mod round;
 mod station;
 
 pub use group::{judge, judge_raw, write, write_raw, Group, Written, MOST_CONTENT, MOST_WRITTEN};
-pub use numbers::{Mode, Notice, Refusal};
+pub use numbers::{words, Mode, Notice, Refusal};
 pub use round::{Answer, Answers, Round};
 pub use station::{Station, INBOX, LINES};

@@ -1,6 +1,49 @@
-//! Document 01's numbers as enums.
+//! Document 01's numbers as enums, and in words.
 
 use core::fmt;
+
+/// What the numbers of document 01's table mean, 0 to 20; `espandim_words` of `include/espandim.h` has the same.
+const WORDS: [&str; 21] = [
+    "a call that is not refused",
+    "group accepted",
+    "frame ended, unflawed",
+    "frame ended, flawed",
+    "frame interrupted by EOT",
+    "STX before the frame ended",
+    "LF inside a group",
+    "a damaged byte in the group",
+    "content over 128",
+    "no separators where they must be, or under 4 characters",
+    "check character wrong",
+    "label not in the mode's list",
+    "stamp not right",
+    "data not of the width",
+    "a data character not of the kind",
+    "inbox or lent buffer too short for all",
+    "line number 8 or more",
+    "delivery to a closed line",
+    "sheet under 1,080 bytes",
+    "mode not 0 or 1",
+    "capture empty or not begun by H or S",
+];
+
+/// What a number of document 01's table means, in English; 20 is the number of a listing.
+///
+/// `None` for a number that is not in the table, as [`Notice::from_number`] and [`Refusal::from_number`] have it: what to
+/// say of it is the caller's own choice.
+///
+/// ```
+/// assert_eq!(espandim::words(10), Some("check character wrong"));
+/// assert_eq!(espandim::words(21), None);
+/// ```
+pub fn words(number: u32) -> Option<&'static str> {
+    WORDS.get(usize::try_from(number).ok()?).copied()
+}
+
+/// The words of a number that is in the table, and the number.
+fn say(number: u32, to: &mut fmt::Formatter<'_>) -> fmt::Result {
+    write!(to, "{} ({number})", WORDS[number as usize])
+}
 
 /// How a meter speaks. The number is document 01's.
 #[derive(Clone, Copy, Debug, PartialEq, Eq, Hash)]
@@ -16,6 +59,24 @@ impl Mode {
     /// Document 01's number of the mode.
     pub const fn number(self) -> u32 {
         self as u32
+    }
+
+    /// The mode with this number.
+    pub const fn from_number(number: u32) -> Option<Mode> {
+        Some(match number {
+            0 => Mode::Historic,
+            1 => Mode::Standard,
+            _ => return None,
+        })
+    }
+}
+
+/// The mode with this number, as it came from a message or a file of settings; [`Refusal::ModeUnknown`] (19) for any other.
+impl TryFrom<u32> for Mode {
+    type Error = Refusal;
+
+    fn try_from(number: u32) -> Result<Mode, Refusal> {
+        Mode::from_number(number).ok_or(Refusal::ModeUnknown)
     }
 }
 
@@ -78,6 +139,13 @@ impl Notice {
     }
 }
 
+/// The notice in [`words`], with its number: `frame ended, flawed (3)`.
+impl fmt::Display for Notice {
+    fn fmt(&self, to: &mut fmt::Formatter<'_>) -> fmt::Result {
+        say(self.number(), to)
+    }
+}
+
 /// Why a call is refused: 8 to 14 are those of a group that is judged or written, 15 to 19 those of the calls. The
 /// number is document 01's. A refused call changes nothing.
 #[derive(Clone, Copy, Debug, PartialEq, Eq, Hash)]
@@ -108,7 +176,7 @@ pub enum Refusal {
     ///
     /// [`Round`]: crate::Round
     SheetShort = 18,
-    /// The mode is neither 0 nor 1. Only the calls that take a mode's raw number give it.
+    /// The mode is neither 0 nor 1. Only what takes a mode's raw number gives it.
     ModeUnknown = 19,
 }
 
@@ -138,23 +206,10 @@ impl Refusal {
     }
 }
 
+/// The refusal in [`words`], with its number: `line number 8 or more (16)`.
 impl fmt::Display for Refusal {
     fn fmt(&self, to: &mut fmt::Formatter<'_>) -> fmt::Result {
-        to.write_str(match self {
-            Refusal::TooLong => "content over 128 characters",
-            Refusal::Misshapen => "content without the shape of a group",
-            Refusal::CheckWrong => "check character wrong",
-            Refusal::LabelUnknown => "label not in the mode's list",
-            Refusal::StampWrong => "stamp not right",
-            Refusal::WidthWrong => "data not of the label's width",
-            Refusal::KindWrong => "a data character not of the label's kind",
-            Refusal::NoRoom => "no room for all bytes",
-            Refusal::LineUnknown => "line number 8 or more",
-            Refusal::LineClosed => "line closed",
-            Refusal::SheetShort => "sheet under 1,080 bytes",
-            Refusal::ModeUnknown => "mode neither 0 nor 1",
-        })?;
-        write!(to, " ({})", self.number())
+        say(self.number(), to)
     }
 }
 

@@ -76,6 +76,11 @@ impl Round {
         self.counts
     }
 
+    /// Whether the round took nothing: all eight counts are 0, and no byte waits on an open line.
+    pub fn is_idle(&self) -> bool {
+        self.counts == [0; LINES]
+    }
+
     /// What this line answered, if it answered and is a line.
     pub fn answer(&self, line: u32) -> Option<Answer<'_>> {
         let line = usize::try_from(line).ok().filter(|&line| line < LINES)?;

@@ -13,8 +13,9 @@ pub const INBOX: usize = 256;
 
 /// Eight meters' lines, 0 to 7, each with an inbox for the bytes that came off its wire.
 ///
-/// Line numbers have 32 bits: a caller's 256 would arrive as line 0, were it cut to a byte first. A station is 3,168
-/// bytes with no pointer in them: it can stand in a `static`, be moved, and be sent to another thread.
+/// Line numbers have 32 bits: a caller's 256 would arrive as line 0, were it cut to a byte first. So would 4,294,967,296,
+/// cut by `as u32`: use `try_into`. A station is 3,168 bytes with no pointer in them: it can stand in a `static`, be moved,
+/// and be sent to another thread.
 #[derive(Clone)]
 pub struct Station {
     memory: boundary::Station,
@@ -28,7 +29,8 @@ impl Station {
         }
     }
 
-    /// Opens a line in a mode, whether it was open or not: its inbox is empty then, and the line outside every frame.
+    /// Opens a line in a mode, whether it was open or not: its inbox is empty then, and the line outside every frame. So
+    /// open a line once: an opening before each delivery would drop what waits, and the frame that has begun.
     ///
     /// # Errors
     ///
@@ -50,13 +52,21 @@ impl Station {
     ///
     /// # Errors
     ///
-    /// [`Refusal::LineUnknown`] (16), [`Refusal::LineClosed`] (17), [`Refusal::NoRoom`] (15), where a round makes room:
-    /// the first that holds.
+    /// [`Refusal::LineUnknown`] (16), [`Refusal::LineClosed`] (17), [`Refusal::NoRoom`] (15): the first that holds. After
+    /// 15, rounds make room, and the same bytes are handed in again; more than 256 ([`INBOX`]) are refused however often
+    /// they are tried, so cut them.
     pub fn deliver(&mut self, line: u32, bytes: &[u8]) -> Result<(), Refusal> {
         outcome(boundary::deliver(&mut self.memory, line, bytes), 0)
     }
 
     /// Gives each open line its turn, which takes its oldest bytes, at most 64, up to one that gives an answer.
+    ///
+    /// How often: until a round [is idle](Round::is_idle), after each delivery. A turn ends at each answer, so a noisy line
+    /// may give one byte a round, and one round for each delivery leaves answers behind and fills the inbox. Where bytes
+    /// wait on a line its turn takes at least one, so all 256 that can wait are taken within 256 rounds, and the 257th at
+    /// the latest is idle. More closely: n bytes that complete k answers are taken within n/64, rounded up, plus k rounds.
+    /// With rounds by the clock instead, as many are needed as bytes can come on one line: 960 a second at 9600 baud, 120
+    /// at 1200.
     ///
     /// It can't be refused, as the sheet that is lent for it always has the 1,080 bytes that it needs.
     pub fn round(&mut self) -> Round {

@@ -47,6 +47,11 @@ entries kind width (word ∷ more) =
 abbrev pub labels : String → Kind → ℕ → List Entry
 labels text kind width = entries kind width (words (codes text))
 
+-- "Standard mode, 71 labels", "Historic mode, 34 labels"
+unfoldable pub countOnPage : Mode → ℕ
+countOnPage Standard = 71
+countOnPage Historic = 34
+
 unfoldable pub page : Mode → List Entry
 page Standard =
     labels "ADSC" T 12

@@ -1,6 +1,5 @@
--- The labels of each mode (document 01, "One group": "Standard mode, 71 labels", "Historic mode, 34 labels"), in the
--- order of their bytes: label, kind and width as on the page; `stamped` is its *, and `spaceStamped` are the six labels
--- whose season is a space.
+-- The labels of each mode (document 01, "One group"), in the order of their bytes: label, kind and width as on the page;
+-- `stamped` is its *, and `spaceStamped` are those of them whose season is a space.
 use mathlib.Core.Bool.{Bool, true, false, _&&_}
 use mathlib.Core.Option.{Option, none, some}
 use mathlib.Core.List.{List, [], _∷_}

@@ -1,10 +1,10 @@
 // The table: document 01's labels, each mode's in the order of their bytes. A row has the label's bytes, in room for
 // nine, and their number; the width and the kind of the data; and the mark that says which stamp the label has.
 //
-// One array of 71 rows is more than the prover can take today, so the rows stand in arrays of nine, in order. NO_ROW
-// fills the last array of a mode, and no search reaches it.
+// One array of all rows is more than the prover can take today, so they stand in arrays of nine, in order. NO_ROW fills
+// the last array of a mode, and no search reaches it.
 
-// Data kinds: decimal digits; digits and A to F; any of space to tilde.
+// Data kinds, document 01's letters in this order: N, decimal digits; X, digits and A to F; T, any of space to tilde.
 pub enum Kind {
     Digits,
     Hex,

@@ -2,12 +2,12 @@
 // line. Each answer gives a line: its number and, for an accepted group, label, stamp or `-`, and data, each after a
 // space. A capture that is empty, or begins with another byte, gives the line `20`.
 //
+// usage: ./espandim listing < CAPTURE
+//
 // The capture is read in pieces. From one piece to the next goes only what a line keeps, so a capture of any length is
 // listed in the same small room, and a line that is still being captured is listed as it comes.
 mod text;
 
-use libc::STDIN_FILENO;
-use libc::STDOUT_FILENO;
 use line::LineState;
 use line::Opening;
 ghost use mathlib.Core.Path.{_≡_};
@@ -48,6 +48,11 @@ fn list_next(line: LineState, content: &mut [u8; 128], bytes: &[u8], text: &mut 
     }
 }
 
+// Writes a text, and tells whether all of it went out.
+fn print(text: &[u8]) -> bool {
+    streams::print(b"listing", text)
+}
+
 // Lists a piece of the capture. Each line is written as soon as it is known, and whole.
 fn list_piece(line: LineState, content: &mut [u8; 128], bytes: &[u8]) -> Progress
     requires { ⌜ length (now content) ≡ 128 ⌝ }
@@ -59,7 +64,7 @@ fn list_piece(line: LineState, content: &mut [u8; 128], bytes: &[u8]) -> Progres
     while i < bytes.len() {
         let listed = list_next(at, content, &bytes[i..], &mut text);
         let length = listed.length;
-        if !io::write_all(STDOUT_FILENO, &text[..length]) {
+        if !print(&text[..length]) {
             return Progress::Over;
         }
         at = listed.line;
@@ -68,13 +73,13 @@ fn list_piece(line: LineState, content: &mut [u8; 128], bytes: &[u8]) -> Progres
     Progress::Going(at)
 }
 
-// Reads a piece of the capture and lists it. An input that ends, or can't be read, is over.
+// Reads a piece of the capture and lists it. An input that ends, or can't be read any more, is over.
 fn list_some(line: LineState, content: &mut [u8; 128]) -> Progress
     requires { ⌜ length (now content) ≡ 128 ⌝ }
     ensures { λ _. ⌜ length (now (content .exit)) ≡ 128 ⌝ }
 {
     let mut piece = io::buffer();
-    let got = libc::read(STDIN_FILENO, &mut piece);
+    let got = streams::read(b"listing", &mut piece);
     let n = io::count(got, &piece);
     if n == 0 {
         return Progress::Over;
@@ -109,22 +114,26 @@ fn open_by(letter: u8) -> Opening
     }
 }
 
-// Reads the first byte of the capture. Where there is none, no line is opened either.
-fn begin() -> Opening {
-    let mut first = [0; 1];
-    let got = io::read_full(STDIN_FILENO, &mut first);
-    if got == 0 {
+// The line that a capture opens, given how many bytes came, none or one, and that one.
+fn begin(count: isize, letter: u8) -> Opening {
+    if count == 0 {
         return Opening::ModeUnknown;
     }
-    open_by(first[0])
+    open_by(letter)
 }
 
+// An input that can't be read is no capture, not even an empty one: nothing is listed of it.
 fn main() {
-    let opening = begin();
+    let mut first = [0; 1];
+    let got = streams::read(b"listing", &mut first);
+    if got < 0 {
+        return;
+    }
+    let opening = begin(got, first[0]);
     match opening {
         Opening::Opened(line) => list_all(line),
         Opening::ModeUnknown => {
-            io::write_all(STDOUT_FILENO, b"20\n");
+            print(b"20\n");
         }
     }
 }

@@ -1,6 +1,5 @@
 // Standard input, taken byte by byte from a lent piece that holds what one read brought.
 use crate::wide;
-use libc::STDIN_FILENO;
 ghost use mathlib.Core.Path.{_≡_};
 ghost use Prim.Native.Nat.{_+_, _*_, _≤_};
 ghost use lib.ListN.{length};
@@ -8,13 +7,18 @@ ghost use lib.ListN.{length};
 // What one read brought.
 pub type Piece = [u8; 4096];
 
-// Where the taking stands: the bytes of the piece from place `next` up to `end` wait. `ended` says that a byte was
-// asked for and there was none, or that a length was over 4,096. It stays set, and every byte from then on is 0: so a
-// record is taken to its end, and one test there says whether it was one.
+// Where the taking stands: the bytes of the piece from place `next` up to `end` wait, and `before` bytes of the input went
+// before the piece. `ended` says that a byte was asked for and there was none, or that a length was over 4,096, which
+// `overlong` tells apart. It stays set, and every byte from then on is 0: so a record is taken to its end, and one test
+// there says whether it was one. `record` is the number of the record, from 1, and `start` where it starts in the input.
 pub struct Reader {
     pub next: usize,
     pub end: usize,
+    pub before: usize,
+    pub record: usize,
+    pub start: usize,
     pub ended: bool,
+    pub overlong: bool,
 }
 
 // A byte, and where the taking stands behind it.
@@ -40,15 +44,37 @@ pub(crate) fn start() -> Reader {
     Reader {
         next: 0,
         end: 0,
+        before: 0,
+        record: 0,
+        start: 0,
         ended: false,
+        overlong: false,
     }
 }
 
-fn at_end() -> Reader {
+// Nothing is taken any more.
+fn stopped(reader: Reader, overlong: bool) -> Reader {
     Reader {
         next: 0,
         end: 0,
+        before: reader.before,
+        record: reader.record,
+        start: reader.start,
         ended: true,
+        overlong,
+    }
+}
+
+// The next byte begins a record. No input is so long that these numbers would start again at 0.
+pub(crate) fn at_record(reader: Reader) -> Reader {
+    Reader {
+        next: reader.next,
+        end: reader.end,
+        before: reader.before,
+        record: std::num::wrapping_add_usize(reader.record, 1),
+        start: std::num::wrapping_add_usize(reader.before, reader.next),
+        ended: reader.ended,
+        overlong: reader.overlong,
     }
 }
 
@@ -59,12 +85,12 @@ pub(crate) fn is_used_up(reader: Reader) -> bool {
 
 // Reads once, and tells how many bytes came. An input that can't be read counts as one that has ended.
 fn refill(piece: &mut [u8]) -> usize {
-    let got = libc::read(STDIN_FILENO, piece);
+    let got = streams::read(b"replay", piece);
     io::count(got, piece)
 }
 
 // The byte at place `next`, if it is one that was read.
-fn taken_at(next: usize, end: usize, piece: &Piece) -> Taken {
+fn taken_at(reader: Reader, next: usize, end: usize, before: usize, piece: &Piece) -> Taken {
     if next < end {
         if next < 4096 {
             return Taken {
@@ -72,26 +98,31 @@ fn taken_at(next: usize, end: usize, piece: &Piece) -> Taken {
                 reader: Reader {
                     next: next + 1,
                     end,
+                    before,
+                    record: reader.record,
+                    start: reader.start,
                     ended: false,
+                    overlong: false,
                 },
             };
         }
     }
     Taken {
         byte: 0,
-        reader: at_end(),
+        reader: stopped(reader, false),
     }
 }
 
 pub(crate) fn take(reader: Reader, piece: &mut Piece) -> Taken {
     if reader.next < reader.end {
-        return taken_at(reader.next, reader.end, piece);
+        return taken_at(reader, reader.next, reader.end, reader.before, piece);
     }
     if reader.ended {
         return Taken { byte: 0, reader };
     }
+    let before = std::num::wrapping_add_usize(reader.before, reader.end);
     let end = refill(piece);
-    taken_at(0, end, piece)
+    taken_at(reader, 0, end, before, piece)
 }
 
 // Takes as many bytes as the room has.
@@ -126,7 +157,7 @@ fn take_length(reader: Reader, piece: &mut Piece) -> Counted
     if 4096 < count {
         return Counted {
             count: 0,
-            reader: at_end(),
+            reader: stopped(behind, true),
         };
     }
     Counted {

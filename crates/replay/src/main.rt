@@ -8,10 +8,13 @@
 //   `J` mode n, n bytes               judging; the line goes on with label, stamp and data
 //   `W` mode label stamp data n fill  writing into a buffer of n bytes, each `fill` before; the line goes on with how
 //                                     many bytes were written and the whole buffer afterwards
-// Fields are parted by a space; bytes are in hex, and none are `-`. A length over 4,096, an unknown letter or a record
-// that is cut short gives the line `?`, and the program ends. It ends without a word where the input ends between two
-// records, and at the first write that fails. What it is run on, and what it must write, is made from the calls in
-// calls.tsv by the script `make`.
+// Fields are parted by a space; bytes are in hex, and none are `-`. What is no record gives a line too: `?`, its number
+// from 1, where it starts in the input, counted from 0, and why: `unknown letter`, `length over 4096` or `cut short`. Then
+// the program ends. It ends without a word where the input ends between two records. docs/REPLAY.md has an example.
+//
+// usage: ./espandim replay < LOG
+//
+// What it is run on, and what it must write, is made from the calls in calls.tsv by the script `make`.
 mod input;
 mod output;
 
@@ -34,13 +37,25 @@ struct Desk {
     done: bool,
 }
 
-// The end, at what is no record.
-fn stop(reader: Reader, pen: Pen, page: &mut Page) -> Desk {
-    let told = output::put_all(pen, page, b"?\n");
+// The end, at what is no record: which one, where it starts, and why, with the end of the line.
+fn refuse(reader: Reader, pen: Pen, page: &mut Page, why: &[u8]) -> Desk {
+    let begun = output::put_all(pen, page, b"?");
+    let numbered = output::put_number(begun, page, reader.record);
+    let placed = output::put_number(numbered, page, reader.start);
+    let told = output::put_all(placed, page, why);
     Desk {
         reader,
         pen: told,
         done: true,
+    }
+}
+
+// The end, at a record that could not be taken to its own end.
+fn stop(reader: Reader, pen: Pen, page: &mut Page) -> Desk {
+    if reader.overlong {
+        refuse(reader, pen, page, b" length over 4096\n")
+    } else {
+        refuse(reader, pen, page, b" cut short\n")
     }
 }
 
@@ -275,7 +290,7 @@ fn replay(
         b'R' => round(marks, places, contents, inboxes, reader, pen, piece, page),
         b'J' => judging(reader, pen, piece, page),
         b'W' => writing(reader, pen, piece, page),
-        _ => stop(reader, pen, page),
+        _ => refuse(reader, pen, page, b" unknown letter\n"),
     }
 }
 
@@ -306,7 +321,8 @@ fn replay_next(
             done: true,
         };
     }
-    let taken = input::take(reader, piece);
+    let begun = input::at_record(reader);
+    let taken = input::take(begun, piece);
     let behind = taken.reader;
     if behind.ended {
         return Desk {

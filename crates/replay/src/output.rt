@@ -1,5 +1,4 @@
 // Standard output, gathered on a lent page that is written when it is full: a write for each field would be slow.
-use libc::STDOUT_FILENO;
 ghost use mathlib.Core.Path.{_≡_};
 ghost use Prim.Native.Nat.{_<_};
 ghost use Rattle.io.specs.Digits.{glyph, digits};
@@ -26,7 +25,7 @@ fn write_front(page: &[u8], count: usize) -> bool {
     if page.len() < count {
         return false;
     }
-    io::write_all(STDOUT_FILENO, &page[0..count])
+    streams::print(b"replay", &page[0..count])
 }
 
 // Writes what waits.

@@ -2,11 +2,11 @@
 // line, as for `listing`. It writes a line for each number from 1 to 14: the number, a space, and how many answers had
 // it. A capture that is empty, or begins with another byte, gives the line `20`.
 //
+// usage: ./espandim tally < CAPTURE
+//
 // The fitter sees from it how noisy a line is; and since it does little but take bytes, bench/run measures the line's
 // loop by it. It is proved to be safe and to end. Where a test could be left out, since what it asks always holds, the
 // test spares the proof of that.
-use libc::STDIN_FILENO;
-use libc::STDOUT_FILENO;
 use line::LineState;
 use line::Opening;
 ghost use mathlib.Core.Path.{_≡_};
@@ -58,14 +58,15 @@ fn count_piece(
     at
 }
 
-// Reads a piece of the capture into the lent room and counts its answers. An input that ends, or can't be read, is over.
+// Reads a piece of the capture into the lent room and counts its answers. An input that ends, or can't be read any more,
+// is over.
 fn count_some(
     line: LineState,
     content: &mut [u8; 128],
     room: &mut [u8],
     counts: &mut [u64],
 ) -> Progress {
-    let got = libc::read(STDIN_FILENO, room);
+    let got = streams::read(b"tally", room);
     let n = io::count(got, room);
     if n == 0 {
         return Progress::Over;
@@ -90,12 +91,20 @@ fn count_all(line: LineState, counts: &mut [u64]) {
     }
 }
 
+// Writes a text, and tells whether all of it went out.
+fn print(text: &[u8]) -> bool {
+    streams::print(b"tally", text)
+}
+
+fn print_number(number: u64) -> bool {
+    let mut text = [0u8; 20];
+    let count = io::decimal(number, &mut text);
+    print(&text[..count])
+}
+
 // Writes the line of a number; whether it could be written.
 fn show(number: usize, count: u64) -> bool {
-    io::print_decimal(STDOUT_FILENO, number as u64)
-        && io::write_all(STDOUT_FILENO, b" ")
-        && io::print_decimal(STDOUT_FILENO, count)
-        && io::write_all(STDOUT_FILENO, b"\n")
+    print_number(number as u64) && print(b" ") && print_number(count) && print(b"\n")
 }
 
 // Writes the lines of the numbers from 1 on, and stops where one can't be written.
@@ -109,14 +118,11 @@ fn show_all(counts: &[u64]) {
     }
 }
 
-// The line that the first byte of a capture opens. Where there is none, no line is opened either.
-fn begin() -> Opening {
-    let mut first = [0; 1];
-    let got = io::read_full(STDIN_FILENO, &mut first);
-    if got == 0 {
+// The line that a capture opens, given how many bytes came, none or one, and that one.
+fn begin(count: isize, letter: u8) -> Opening {
+    if count == 0 {
         return Opening::ModeUnknown;
     }
-    let letter = first[0];
     match letter {
         b'H' => line::open(0),
         b'S' => line::open(1),
@@ -124,16 +130,22 @@ fn begin() -> Opening {
     }
 }
 
+// An input that can't be read is no capture, not even an empty one: nothing is counted of it.
 fn main() {
     let mut counts = [0; 15];
-    let opening = begin();
+    let mut first = [0; 1];
+    let got = streams::read(b"tally", &mut first);
+    if got < 0 {
+        return;
+    }
+    let opening = begin(got, first[0]);
     match opening {
         Opening::Opened(line) => {
             count_all(line, &mut counts);
             show_all(&counts);
         }
         Opening::ModeUnknown => {
-            io::write_all(STDOUT_FILENO, b"20\n");
+            print(b"20\n");
         }
     }
 }

@@ -1,5 +1,10 @@
 // Shows what came over the wire, byte by byte: a line for each byte of standard input, with the byte in hex and what it
 // is: `unsound`, the name of a control character, the character itself, or, for any other, its number in hex.
+//
+// usage: ./espandim wire < CAPTURE
+//
+// Lines are gathered on a page and written when it is full, and when all that was read is shown: a line that is still
+// being captured is shown as it comes, and a long capture takes few writes.
 use characters::CR;
 use characters::EOT;
 use characters::ETX;
@@ -7,9 +12,15 @@ use characters::HT;
 use characters::LF;
 use characters::SP;
 use characters::STX;
-use libc::STDIN_FILENO;
-use libc::STDOUT_FILENO;
-ghost use Prim.Native.Nat.{_<_};
+ghost use mathlib.Core.Path.{_≡_};
+ghost use Prim.Native.Nat.{_+_, _<_, _≤_};
+ghost use lib.ListN.{length};
+
+// The longest line is that of an unsound byte: two digits, a space, `unsound` and an LF.
+const LONGEST: usize = 11;
+
+// The bytes of a page.
+const PAGE: usize = 4096;
 
 fn hex_digit(n: u8) -> u8
     requires { ⌜ n < 16 ⌝ }
@@ -17,54 +28,113 @@ fn hex_digit(n: u8) -> u8
     if n < 10 { b'0' + n } else { b'a' + (n - 10) }
 }
 
-// A line: the byte in hex, a space, and what it is.
-fn show_as(wire: u8, what: &[u8]) -> bool {
+// Lays bytes at a place of the page; the place behind them.
+fn put_all(page: &mut [u8], at: usize, bytes: &[u8]) -> usize
+    requires { ⌜ at + length (now bytes) ≤ length (now page) ⌝ }
+    ensures { λ r. ⌜ r ≡ at + length (now (bytes .entry)) ⌝ }
+{
+    let mut i = 0;
+    while i < bytes.len() {
+        page[at + i] = bytes[i];
+        i += 1;
+    }
+    at + i
+}
+
+// Lays a line: the byte in hex, a space, and what it is.
+fn put_line(page: &mut [u8], at: usize, wire: u8, what: &[u8]) -> usize
+    requires { ⌜ at + 4 + length (now what) ≤ length (now page) ⌝ }
+    ensures { λ r. ⌜ r ≡ at + 4 + length (now (what .entry)) ⌝ }
+{
     let head = [hex_digit(wire / 16), hex_digit(wire % 16), b' '];
-    io::write_all(STDOUT_FILENO, &head)
-        && io::write_all(STDOUT_FILENO, what)
-        && io::write_all(STDOUT_FILENO, b"\n")
+    let behind_head = put_all(page, at, &head);
+    let behind_what = put_all(page, behind_head, what);
+    put_all(page, behind_what, b"\n")
 }
 
 // The line of a sound byte.
-fn show_sound(wire: u8) -> bool {
+fn put_sound(page: &mut [u8], at: usize, wire: u8) -> usize
+    requires { ⌜ at + 11 ≤ length (now page) ⌝ }
+    ensures { λ r. ⌜ r ≤ at + 11 ⌝ }
+{
     let code = characters::character(wire);
     match code {
-        STX => show_as(wire, b"STX"),
-        ETX => show_as(wire, b"ETX"),
-        EOT => show_as(wire, b"EOT"),
-        HT => show_as(wire, b"HT"),
-        LF => show_as(wire, b"LF"),
-        CR => show_as(wire, b"CR"),
-        SP => show_as(wire, b"SP"),
-        0x21..=0x7E => show_as(wire, &[code]),
-        _ => show_as(wire, &[hex_digit(code / 16), hex_digit(code % 16)]),
+        STX => put_line(page, at, wire, b"STX"),
+        ETX => put_line(page, at, wire, b"ETX"),
+        EOT => put_line(page, at, wire, b"EOT"),
+        HT => put_line(page, at, wire, b"HT"),
+        LF => put_line(page, at, wire, b"LF"),
+        CR => put_line(page, at, wire, b"CR"),
+        SP => put_line(page, at, wire, b"SP"),
+        0x21..=0x7E => put_line(page, at, wire, &[code]),
+        _ => put_line(
+            page,
+            at,
+            wire,
+            &[hex_digit(code / 16), hex_digit(code % 16)],
+        ),
     }
 }
 
-fn show(wire: u8) -> bool {
+fn put(page: &mut [u8], at: usize, wire: u8) -> usize
+    requires { ⌜ at + 11 ≤ length (now page) ⌝ }
+    ensures { λ r. ⌜ r ≤ at + 11 ⌝ }
+{
     if characters::sound(wire) {
-        show_sound(wire)
+        put_sound(page, at, wire)
     } else {
-        show_as(wire, b"unsound")
+        put_line(page, at, wire, b"unsound")
     }
 }
 
-// Shows bytes until one can't be written, and tells whether all were.
+// Writes the first bytes of the page, whole lines, and tells whether they went out. There are never more than it has:
+// the test spares the proof of that.
+fn write_front(page: &[u8], count: usize) -> bool {
+    if page.len() < count {
+        return false;
+    }
+    streams::print(b"wire", &page[0..count])
+}
+
+// A page with room for one more line: where the next line goes, and whether the page could be written to make room.
+struct Pen {
+    at: usize,
+    closed: bool,
+}
+
+fn with_room(page: &[u8], at: usize) -> Pen
+    ensures { λ r. ⌜ r .at + 11 ≤ 4096 ⌝ }
+{
+    if at <= PAGE - LONGEST {
+        return Pen { at, closed: false };
+    }
+    let written = write_front(page, at);
+    Pen {
+        at: 0,
+        closed: !written,
+    }
+}
+
+// Shows bytes until a page can't be written, and tells whether all were.
 fn show_all(bytes: &[u8]) -> bool {
+    let mut page = io::buffer();
+    let mut at = 0;
     let mut i = 0;
     while i < bytes.len() {
-        if !show(bytes[i]) {
+        let pen = with_room(&page, at);
+        if pen.closed {
             return false;
         }
+        at = put(&mut page, pen.at, bytes[i]);
         i += 1;
     }
-    true
+    write_front(&page, at)
 }
 
-// Reads once, shows what came, and tells whether there may be more. The input that ends, or can't be read, is over.
+// Reads once, shows what came, and tells whether there may be more.
 fn show_some() -> bool {
     let mut piece = io::buffer();
-    let got = libc::read(STDIN_FILENO, &mut piece);
+    let got = streams::read(b"wire", &mut piece);
     let n = io::count(got, &piece);
     if n == 0 {
         return false;

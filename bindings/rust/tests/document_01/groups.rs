@@ -1,7 +1,9 @@
 //! "One group": judging and writing one that is given alone.
 
 use crate::wire::{content, group, ETX, STX};
-use espandim::{judge, judge_raw, write, write_raw, Answer, Group, Mode, Notice, Refusal, Station};
+use espandim::{
+    judge, judge_raw, write, write_raw, Answer, Group, Mode, Notice, Refusal, Station, MOST_WRITTEN,
+};
 
 use Mode::{Historic, Standard};
 
@@ -153,6 +155,7 @@ fn data_of(kind: &str, width: usize) -> Vec<u8> {
 #[test]
 fn what_is_written_for_every_label_reads_back() {
     let mut labels = [0, 0];
+    let mut longest = (0, "");
     let historic = HISTORIC.iter().map(|row| (Historic, row));
     let standard = STANDARD.iter().map(|row| (Standard, row));
     for (mode, row) in historic.chain(standard) {
@@ -167,6 +170,7 @@ fn what_is_written_for_every_label_reads_back() {
             } else {
                 b""
             };
+            let name = label;
             let expected = fields(label.as_bytes(), stamp, &data);
             let Group { label, stamp, data } = expected;
             let content = content(mode, label, stamp, data);
@@ -176,6 +180,7 @@ fn what_is_written_for_every_label_reads_back() {
             assert_eq!(written.as_bytes(), group(&content));
             // Without the parity bits, LF and CR the reader is given what it was.
             let bytes = written.as_bytes();
+            longest = longest.max((bytes.len(), name));
             let characters: Vec<u8> = bytes.iter().map(|byte| byte & 0x7F).collect();
             let inside = &characters[1..characters.len() - 1];
             assert_eq!(judge(mode, inside), Ok(expected));
@@ -213,6 +218,8 @@ fn what_is_written_for_every_label_reads_back() {
         }
     }
     assert_eq!(labels, [34, 71]);
+    assert_eq!(longest, (111, "PJOURF+1"));
+    const { assert!(111 <= MOST_WRITTEN) };
 }
 
 #[test]

@@ -9,3 +9,4 @@ mod groups;
 mod lines;
 mod station;
 mod wire;
+mod words;

@@ -154,6 +154,43 @@ fn room_freed_by_a_round_is_used_again() {
     assert_eq!(taken, 256);
 }
 
+/// "ends early after a byte that gives an answer": a line that answers each byte gives one a round, and all that can wait
+/// within 256 rounds; "the inbox holds 256", so 257 are refused however often.
+#[test]
+fn a_line_that_answers_each_byte_is_taken_within_256_rounds() {
+    let mut station = Station::new();
+    station.open(6, Mode::Historic).unwrap();
+    station.deliver(6, &[STX]).unwrap();
+    assert!(!station.round().is_idle());
+    for _ in 0..3 {
+        refused(&mut station, 15, |station| station.deliver(6, &[STX; 257]));
+        assert!(station.round().is_idle());
+    }
+    station.deliver(6, &[STX; 256]).unwrap();
+    for _ in 0..256 {
+        let round = station.round();
+        assert!(!round.is_idle());
+        assert_eq!(round.counts(), [0, 0, 0, 0, 0, 0, 1, 0]);
+        let restarted = Answer::Told(Notice::FrameRestarted);
+        assert_eq!(round.answer(6), Some(restarted));
+    }
+    let round = station.round();
+    assert!(round.is_idle());
+    assert_eq!(round.counts(), [0; 8]);
+}
+
+#[test]
+fn a_round_is_idle_when_no_line_took_anything() {
+    for line in 0..8 {
+        let mut station = Station::new();
+        station.open(line, Mode::Standard).unwrap();
+        assert!(station.round().is_idle());
+        station.deliver(line, &[IDLE]).unwrap();
+        assert!(!station.round().is_idle());
+        assert!(station.round().is_idle());
+    }
+}
+
 #[test]
 fn the_whole_case_of_the_listing() {
     let mut station = Station::new();

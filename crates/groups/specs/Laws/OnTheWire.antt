@@ -158,9 +158,7 @@ on-is c = refl
 
 -- the same with the bytes that LF and CR have on the wire
 pub on-bytes : (c : List ℕ) → onTheWire c ≡ 0x0A ∷ (map wireByteOf c ++ 0x8D ∷ [])
-on-bytes c =
-    let (stx, etx, eot, ht, lf, cr, sp) = control-wires in
-    rw (on-is c, lf, cr)
+on-bytes c = rw (on-is c, control-wires .4, control-wires .5)
 
 -- two bytes more than the content
 pub on-length : (c : List ℕ) → length (onTheWire c) ≡ length c + 2

@@ -10,6 +10,7 @@ use mir.Facts.{and-yes}
 use Rattle.characters.specs.Answers.{every, pick, by-pick}
 use Rattle.groups.specs.Modes.{separator}
 use Rattle.groups.specs.Table.{Entry, historicRows, standardRows, rows, same, lookup}
+use Rattle.groups.specs.Listed.{countOnPage}
 use Rattle.groups.specs.Stamps.{isStamped}
 use Rattle.groups.specs.Fields.{longest}
 use Rattle.groups.specs.Inside.{stampRoom, ShortRow}
@@ -19,10 +20,11 @@ use Rattle.groups.specs.declared.Mode.{Mode}
 use Rattle.groups.specs.declared.Mode.the-variants.{Historic, Standard}
 use Rattle.groups.specs.declared.table.Rule.{Rule}
 
--- "71 labels", "34 labels"
-pub row-counts : (length (rows Standard) ≡ 71) × (length (rows Historic) ≡ 34)
-unfolding historicRows standardRows
-row-counts = (refl, refl)
+-- each mode has as many rows as the page says
+pub row-counts : (m : Mode) → length (rows m) ≡ countOnPage m
+unfolding historicRows standardRows countOnPage
+row-counts Historic = refl
+row-counts Standard = refl
 
 -- a label is not empty and has neither separator nor control character nor anything past tilde, and the longest content
 -- of its group fits 128
