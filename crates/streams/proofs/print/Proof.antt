@@ -1,5 +1,5 @@
 -- `print` is sure of no text at all: any other may fail to go out.
-use mathlib.Core.Path.{_≡_}
+use native.Mathlib.Omega.{arith}
 use borrow.Author.Needs.{needs}
 use Rattle.streams.proofs.print.Statement.{statement}
 use Rattle.streams.proofs.print.Tie as tie
@@ -23,10 +23,10 @@ complain-requires : tie.Need-complain-requires
 complain-requires c κs = search needs
 
 returns-3 : tie.Need-returns-3
-returns-3 c = λ empty. absurd (c .before .before .before .before .before .before .if1 .left empty)
+returns-3 c = λ empty. absurd (omega (arith, c .before .before .before .before .before .before .if1 .left, empty))
 
 returns-4 : tie.Need-returns-4
-returns-4 c = λ empty. absurd (c .before .before .before .before .if1 .left empty)
+returns-4 c = λ empty. absurd (omega (arith, c .before .before .before .before .if1 .left, empty))
 
 pub print-spec : {M : Type 1} → statement M
 print-spec =
