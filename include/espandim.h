@@ -207,7 +207,11 @@ static inline int espandim_idle(const uint8_t counts[ESPANDIM_LINES]) {
 
 /* The entry of a line on a sheet that a round has written, or that is zeros yet: entry[0] is the number, entry[1], entry[2]
  * and entry[3] are the lengths of label, stamp and data, which follow from entry + 4 on. A null pointer where the line has
- * no answer, or is 8 or more. */
+ * no answer, or is 8 or more.
+ *
+ * A stamp is 13 characters, as they came: its season, then YYMMDDhhmmss. The season is H in winter and E in summer; h and e
+ * are the same from a clock in degraded mode, which lost its time and was not set again yet, so that date and hour may be
+ * anything. For DPM1 to DPM3 and FPM1 to FPM3 it is a space. */
 static inline const uint8_t *espandim_entry(const uint8_t *sheet, uint32_t line) {
     uint32_t offset = line < ESPANDIM_LINES ? sheet[8 + 2 * line] + 256u * sheet[9 + 2 * line] : 0;
     return offset == 0 ? 0 : sheet + offset;
@@ -221,7 +225,7 @@ static inline const uint8_t *espandim_entry(const uint8_t *sheet, uint32_t line)
  *   9   under 4 characters, or the separators not where they must be
  *   10  check character wrong
  *   11  label not in the mode's list
- *   12  stamp not right
+ *   12  stamp not right (a small season letter, h or e, is right where H and E are)
  *   13  data not of the label's width
  *   14  a character of the data not of the label's kind
  * The first that holds is given; all but 1 leave six zeros in the stretches. */

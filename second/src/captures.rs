@@ -9,11 +9,12 @@ use crate::wire::{
 
 /// What can be spoilt on a line; a byte of 128 or more cannot be sent. The
 /// stamp stands twice, for it has the most ways of being wrong.
-const SPOILINGS_ON_LINE: [Spoiling; 7] = [
+const SPOILINGS_ON_LINE: [Spoiling; 8] = [
     Spoiling::Label,
     Spoiling::Separator,
     Spoiling::Stamp,
     Spoiling::Stamp,
+    Spoiling::Season,
     Spoiling::Width,
     Spoiling::Kind,
     Spoiling::Check,
@@ -94,6 +95,7 @@ impl Generator {
         let mut wire = Vec::new();
         while wire.len() < least {
             let piece = match self.dice.below(100) {
+                0..=7 if mode == Mode::Standard => self.degraded_frame(),
                 0..=71 => self.frame(mode),
                 72..=79 => self.noise(),
                 80..=87 => self.soup(mode),
@@ -149,6 +151,16 @@ impl Generator {
                 self.disturb(&mut wire);
             }
         }
+        wire
+    }
+
+    /// A frame of standard mode in which every season is small.
+    pub fn degraded_frame(&mut self) -> Vec<u8> {
+        let mut wire = vec![to_wire(START_OF_TEXT)];
+        for _ in 0..self.dice.between(1, 2) {
+            wire.extend(group_on_wire(&self.degraded_draft().content()));
+        }
+        wire.push(to_wire(END_OF_TEXT));
         wire
     }
 

@@ -3,15 +3,11 @@
 
 use crate::dice::Dice;
 use crate::drafts::Generator;
-use crate::group::judge;
 use crate::hexadecimal::hexadecimal;
-use crate::histories::{log_bytes, Item, CALLS_IN_HISTORY};
-use crate::listing::{answers_of_capture, listing};
-use crate::numbers::Answer;
-use crate::replay::{read_log, replies_to, text_of_replies, Call, Reply};
-use crate::station::LONGEST_TURN;
-use crate::table::{all_rules, Mode};
-use std::collections::{BTreeMap, BTreeSet};
+use crate::histories::{log_bytes, Item};
+use crate::listing::listing;
+use crate::replay::{replies_to, text_of_replies, Call};
+use crate::tally::Tally;
 use std::io::{Read, Write};
 use std::os::unix::process::CommandExt;
 use std::process::{Command, Stdio};
@@ -39,99 +35,46 @@ pub struct Settings {
     pub replay_program: Option<String>,
 }
 
-/// Where an answer was seen, one column of the closing table.
-#[derive(Clone, Copy, Debug, PartialEq, Eq, PartialOrd, Ord)]
-enum Place {
-    Listing,
-    Opening,
-    Delivery,
-    Round,
-    Sheet,
-    Judging,
-    Writing,
-}
-
-const PLACES: [(Place, &str); 7] = [
-    (Place::Listing, "listing"),
-    (Place::Opening, "opening"),
-    (Place::Delivery, "delivery"),
-    (Place::Round, "round"),
-    (Place::Sheet, "sheet"),
-    (Place::Judging, "judging"),
-    (Place::Writing, "writing"),
-];
-
-/// What was seen in the inputs that were made.
-#[derive(Default)]
-struct Tally {
-    captures_compared: u64,
-    histories_compared: u64,
-    calls: u64,
-    unreadable_logs: u64,
-    runs_not_ended_well: u64,
-    answers: BTreeMap<(u8, Place), u64>,
-    labels_accepted: BTreeMap<Place, BTreeSet<(Mode, Vec<u8>)>>,
-    answers_on_64th_byte: u64,
-    offsets_over_255: u64,
-    largest_offset: usize,
-    deeds: BTreeMap<&'static str, u64>,
-}
-
-impl Tally {
-    fn count(&mut self, number: u8, place: Place) {
-        *self.answers.entry((number, place)).or_insert(0) += 1;
-    }
-
-    fn accept(&mut self, place: Place, mode: Mode, label: &[u8]) {
-        let labels = self.labels_accepted.entry(place).or_default();
-        labels.insert((mode, label.to_vec()));
-    }
-
-    fn add_deeds(&mut self, deeds: &BTreeMap<&'static str, u64>) {
-        for (deed, times) in deeds {
-            *self.deeds.entry(deed).or_insert(0) += times;
-        }
-    }
-
-    fn add(&mut self, other: Tally) {
-        self.captures_compared += other.captures_compared;
-        self.histories_compared += other.histories_compared;
-        self.calls += other.calls;
-        self.unreadable_logs += other.unreadable_logs;
-        self.runs_not_ended_well += other.runs_not_ended_well;
-        self.answers_on_64th_byte += other.answers_on_64th_byte;
-        self.offsets_over_255 += other.offsets_over_255;
-        self.largest_offset = self.largest_offset.max(other.largest_offset);
-        for (key, times) in other.answers {
-            *self.answers.entry(key).or_insert(0) += times;
-        }
-        for (place, labels) in other.labels_accepted {
-            self.labels_accepted
-                .entry(place)
-                .or_default()
-                .extend(labels);
-        }
-        self.add_deeds(&other.deeds);
+impl Settings {
+    /// As many captures as were asked for, and a tenth as many histories.
+    fn captures_and_histories(&self) -> (u64, u64) {
+        (self.count, self.count / 10)
     }
 }
 
 /// An input on which a program differs.
-enum Difference {
+pub(crate) enum Difference {
     OnCapture(Vec<u8>),
     OnHistory(Vec<Item>),
 }
 
 /// One piece of work for a worker.
 #[derive(Clone, Copy, Debug)]
-enum Task {
+pub(crate) enum Task {
     Capture(u64),
     History(u64),
 }
 
 /// Compares, prints what came of it, and tells whether all was the same.
 pub fn compare(settings: &Settings) -> bool {
-    let captures = settings.count;
-    let histories = settings.count / 10;
+    let (tally, found) = go_through(settings);
+    match found {
+        Some((task, difference)) => {
+            print_difference(settings, task, difference);
+            false
+        }
+        None => {
+            let (captures, histories) = settings.captures_and_histories();
+            print_quietly(&tally.report(captures, histories));
+            true
+        }
+    }
+}
+
+/// Makes the captures and histories, notes what is in them, and runs the
+/// programs that are given, up to a difference.
+pub(crate) fn go_through(settings: &Settings) -> (Tally, Option<(Task, Difference)>) {
+    let (captures, histories) = settings.captures_and_histories();
     let next_task = AtomicU64::new(0);
     let stop = AtomicBool::new(false);
     let whole_tally = Mutex::new(Tally::default());
@@ -161,14 +104,11 @@ pub fn compare(settings: &Settings) -> bool {
             });
         }
     });
-    if let Some((number, difference)) = found.into_inner().expect("no worker panics") {
-        let task = task_of(number, captures, histories);
-        print_difference(settings, task, difference);
-        return false;
-    }
     let tally = whole_tally.into_inner().expect("no worker panics");
-    print_tally(captures, histories, &tally);
-    true
+    let first = found.into_inner().expect("no worker panics");
+    let difference =
+        first.map(|(number, difference)| (task_of(number, captures, histories), difference));
+    (tally, difference)
 }
 
 /// Every eleventh task is a history, as long as there are both.
@@ -192,7 +132,7 @@ fn do_task(settings: &Settings, task: Task, tally: &mut Tally) -> Option<Differe
             let mut generator = Generator::new(Dice::for_item(settings.seed, 1, index));
             let capture = generator.capture();
             tally.add_deeds(&generator.deeds);
-            tally_capture(&capture, tally);
+            tally.note_capture(&capture);
             let program = settings.listing_program.as_ref()?;
             let run = run_program(program, &capture);
             tally.captures_compared += 1;
@@ -201,11 +141,11 @@ fn do_task(settings: &Settings, task: Task, tally: &mut Tally) -> Option<Differe
         }
         Task::History(index) => {
             let mut generator = Generator::new(Dice::for_item(settings.seed, 2, index));
-            let history = generator.history();
+            let history = generator.history(index);
             let log = log_bytes(&history);
             let replies = replies_to(&log);
             tally.add_deeds(&generator.deeds);
-            tally_history(&log, &replies, tally);
+            tally.note_history(&log, &replies);
             let program = settings.replay_program.as_ref()?;
             let run = run_program(program, &log);
             tally.histories_compared += 1;
@@ -213,80 +153,6 @@ fn do_task(settings: &Settings, task: Task, tally: &mut Tally) -> Option<Differe
             let own = text_of_replies(&replies).into_bytes();
             (run.output != own).then_some(Difference::OnHistory(history))
         }
-    }
-}
-
-fn tally_capture(capture: &[u8], tally: &mut Tally) {
-    match answers_of_capture(capture) {
-        Err(refusal) => tally.count(refusal.number(), Place::Listing),
-        Ok(answers) => {
-            let mode = match capture[0] {
-                b'H' => Mode::Historic,
-                _ => Mode::Standard,
-            };
-            for answer in &answers {
-                tally.count(answer.number(), Place::Listing);
-                if let Answer::GroupAccepted { label, .. } = answer {
-                    tally.accept(Place::Listing, mode, label.as_bytes());
-                }
-            }
-        }
-    }
-}
-
-fn tally_history(log: &[u8], replies: &[Reply], tally: &mut Tally) {
-    let calls = read_log(log).calls;
-    tally.calls += calls.len() as u64;
-    for (index, reply) in replies.iter().enumerate() {
-        match reply {
-            Reply::Opened { number } => tally.count(*number, Place::Opening),
-            Reply::Delivered { number } => tally.count(*number, Place::Delivery),
-            Reply::Rounded { number, counts, .. } => {
-                tally.count(*number, Place::Round);
-                for entry in reply.entries() {
-                    tally.count(entry.number, Place::Sheet);
-                    if entry.number == 1 {
-                        // No label is in both lists.
-                        let label = &entry.texts[0];
-                        tally.accept(Place::Sheet, mode_of_label(label), label);
-                    }
-                    if usize::from(counts[entry.line]) == LONGEST_TURN {
-                        tally.answers_on_64th_byte += 1;
-                    }
-                    tally.offsets_over_255 += u64::from(entry.offset > 255);
-                    tally.largest_offset = tally.largest_offset.max(entry.offset);
-                }
-            }
-            Reply::Judged { number, .. } => {
-                tally.count(*number, Place::Judging);
-                if let Call::Judge { mode, content } = &calls[index] {
-                    let judgement = judge(*mode, content);
-                    if let (1, Some(mode)) = (judgement.number(), Mode::from_number(*mode)) {
-                        tally.accept(Place::Judging, mode, judgement.stretches().label);
-                    }
-                }
-            }
-            Reply::Written { number, .. } => {
-                tally.count(*number, Place::Writing);
-                if let (0, Call::Write { mode, label, .. }) = (*number, &calls[index]) {
-                    if let Some(mode) = Mode::from_number(*mode) {
-                        tally.accept(Place::Writing, mode, label);
-                    }
-                }
-            }
-            Reply::Unreadable(_) => tally.unreadable_logs += 1,
-        }
-    }
-}
-
-fn mode_of_label(label: &[u8]) -> Mode {
-    let historic = all_rules(Mode::Historic)
-        .iter()
-        .any(|rule| rule.label.as_bytes() == label);
-    if historic {
-        Mode::Historic
-    } else {
-        Mode::Standard
     }
 }
 
@@ -557,61 +423,6 @@ fn count_same<Part: PartialEq>(first: &[Part], second: &[Part]) -> usize {
         .zip(second)
         .take_while(|(one, other)| one == other)
         .count()
-}
-
-fn print_tally(captures: u64, histories: u64, tally: &Tally) {
-    let mut report = format!(
-        "captures: {captures} made, {} compared\n\
-         histories: {histories} made of {CALLS_IN_HISTORY} calls each, {} compared; \
-         {} calls in them, {} of them end in `?`\n\
-         runs that ended with another status than 0: {}\n",
-        tally.captures_compared,
-        tally.histories_compared,
-        tally.calls,
-        tally.unreadable_logs,
-        tally.runs_not_ended_well,
-    );
-    report.push_str("answers seen:\n  number");
-    for (_, name) in PLACES {
-        report.push_str(&format!(" {name:>9}"));
-    }
-    report.push_str("       all\n");
-    for number in 0..=20 {
-        let seen: Vec<u64> = PLACES
-            .iter()
-            .map(|(place, _)| *tally.answers.get(&(number, *place)).unwrap_or(&0))
-            .collect();
-        report.push_str(&format!("  {number:>6}"));
-        for times in &seen {
-            report.push_str(&format!(" {times:>9}"));
-        }
-        report.push_str(&format!(" {:>9}\n", seen.iter().sum::<u64>()));
-    }
-    report.push_str(&format!(
-        "labels accepted or written, standard of {} and historic of {}:\n",
-        all_rules(Mode::Standard).len(),
-        all_rules(Mode::Historic).len()
-    ));
-    for (place, name) in PLACES {
-        if let Some(labels) = tally.labels_accepted.get(&place) {
-            let of_mode = |mode| labels.iter().filter(|(one, _)| *one == mode).count();
-            report.push_str(&format!(
-                "  {name}: {} and {}\n",
-                of_mode(Mode::Standard),
-                of_mode(Mode::Historic)
-            ));
-        }
-    }
-    report.push_str(&format!(
-        "turns with an answer on the 64th byte: {}\n\
-         entries at an offset over 255: {}, largest offset: {}\n",
-        tally.answers_on_64th_byte, tally.offsets_over_255, tally.largest_offset
-    ));
-    report.push_str("what the generator did:\n");
-    for (deed, times) in &tally.deeds {
-        report.push_str(&format!("  {times:>9} {deed}\n"));
-    }
-    print_quietly(&report);
 }
 
 /// Prints, and does not mind when nobody reads.

@@ -2,7 +2,7 @@
 
 use crate::dice::Dice;
 use crate::group::{check_character, days_in_month};
-use crate::table::{all_rules, Kind, Mode, Rule, Season};
+use crate::table::{all_rules, stamped_rules, Kind, Mode, Rule, Season, SMALL_SEASONS};
 use crate::wire::{HORIZONTAL_TAB, SPACE};
 use std::collections::BTreeMap;
 
@@ -83,6 +83,7 @@ pub enum Spoiling {
     Label,
     Separator,
     Stamp,
+    Season,
     Width,
     Kind,
     Check,
@@ -117,17 +118,29 @@ impl Generator {
         self.right_draft_of(mode, &all_rules(mode))
     }
 
+    /// A group with a small season, as from "a clock in degraded mode", of any
+    /// stamped label: right, but for DPM and FPM.
+    pub fn degraded_draft(&mut self) -> Draft {
+        self.note("group with a small season");
+        let mut draft = self.right_draft_of(Mode::Standard, &stamped_rules());
+        draft.stamp[0] = *self.dice.pick(&SMALL_SEASONS);
+        draft
+    }
+
     /// A right group of a label on which the spoiling can show: stamped ones
-    /// for the stamp (DATE often, for it has nothing after the stamp), the one
-    /// hexadecimal label now and then for the kind.
+    /// for the stamp (DATE often, for it has nothing after the stamp) and for
+    /// the season (often DPM and FPM, for which all four letters are wrong),
+    /// the one hexadecimal label now and then for the kind.
     fn right_draft_for(&mut self, mode: Mode, spoiling: Spoiling) -> Draft {
         let with_dates_only = self.dice.percent(25);
+        let with_space_only = self.dice.percent(50);
         let with_hexadecimal_only = self.dice.percent(15);
         let suited: Vec<&'static Rule> = all_rules(mode)
             .into_iter()
             .filter(|rule| match spoiling {
                 Spoiling::Stamp if with_dates_only => rule.stamp.is_some() && rule.width == 0,
-                Spoiling::Stamp => rule.stamp.is_some(),
+                Spoiling::Season if with_space_only => rule.stamp == Some(Season::SpaceOnly),
+                Spoiling::Stamp | Spoiling::Season => rule.stamp.is_some(),
                 Spoiling::Kind if with_hexadecimal_only => rule.kind == Kind::Hexadecimal,
                 _ => true,
             })
@@ -187,10 +200,7 @@ impl Generator {
 
     /// A right stamp, often at the border of a field.
     pub fn right_stamp(&mut self, season: Season) -> Vec<u8> {
-        let letter = match season {
-            Season::WinterOrSummer => *self.dice.pick(b"HE"),
-            Season::SpaceOnly => SPACE,
-        };
+        let letter = *self.dice.pick(season.characters());
         let year = match self.dice.below(3) {
             0 => *self.dice.pick(&[0, 1, 3, 4, 8, 9, 50, 96, 98, 99]),
             _ => self.dice.below(100),
@@ -228,6 +238,7 @@ impl Generator {
             Spoiling::Label => self.spoil_label(draft),
             Spoiling::Separator => self.spoil_separator(draft),
             Spoiling::Stamp => self.spoil_stamp(draft),
+            Spoiling::Season => self.spoil_season(draft),
             Spoiling::Width => self.spoil_width(draft),
             Spoiling::Kind => self.spoil_kind(draft),
             Spoiling::Check => self.spoil_check(draft),
@@ -309,17 +320,17 @@ impl Generator {
 
     fn spoil_stamp(&mut self, draft: &mut Draft) {
         self.note("spoilt: stamp");
-        let Some(season) = draft.rule.stamp else {
+        if draft.rule.stamp.is_none() {
             // A stamp where none belongs.
             draft.stamp = match self.dice.below(3) {
-                0 => vec![*self.dice.pick(b"H0 ")],
+                0 => vec![*self.dice.pick(b"Hh0 ")],
                 _ => self.right_stamp(Season::WinterOrSummer),
             };
             if self.dice.percent(70) {
                 draft.stamp_separator = vec![draft.mode.separator()];
             }
             return;
-        };
+        }
         let letter = *draft.stamp.first().unwrap_or(&b'H');
         let leap_year = self.dice.below(25) * 4;
         let common_year = leap_year + self.dice.between(1, 3);
@@ -328,16 +339,7 @@ impl Generator {
         let year = self.dice.below(100);
         let any_month = self.dice.between(1, 12);
         let small = *self.dice.pick(&[60, 61, 99]);
-        match self.dice.below(18) {
-            15 | 16 => {
-                let wrong: &[u8] = match season {
-                    Season::WinterOrSummer => b"  hhheeeFGDI\x00\t0",
-                    Season::SpaceOnly => b"HHEEhe\x00\t!0",
-                };
-                if let Some(first) = draft.stamp.first_mut() {
-                    *first = *self.dice.pick(wrong);
-                }
-            }
+        match self.dice.below(16) {
             1 => {
                 let month = *self.dice.pick(&[0, 13, 20, 99]);
                 draft.stamp = stamp_text(letter, [year, month, 1, 0, 0, 0]);
@@ -374,6 +376,25 @@ impl Generator {
                 draft.stamp_separator.clear();
                 draft.data.clear();
             }
+        }
+    }
+
+    /// A season that is wrong for the label: one that is right for the other
+    /// labels, or a near miss.
+    fn spoil_season(&mut self, draft: &mut Draft) {
+        let Some(season) = draft.rule.stamp else {
+            self.spoil_stamp(draft);
+            return;
+        };
+        self.note("spoilt: season");
+        let wrong: &[u8] = match season {
+            // The codes next to the four letters, and the letters with another
+            // bit turned over than the one that makes them small.
+            Season::WinterOrSummer => b"   DFGIdfgi%(UXux\x05\x08\x00\t0",
+            Season::SpaceOnly => b"hhheeeHHEE\x00\t\x1F!0`",
+        };
+        if let Some(first) = draft.stamp.first_mut() {
+            *first = *self.dice.pick(wrong);
         }
     }
 

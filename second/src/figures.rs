@@ -1,17 +1,25 @@
-//! Tests from document 01 alone: its figures, its edges, its refusals in
-//! their order, its mistakes that look right.
+//! Tests from documents 01 and 02 alone: document 01's figures, its edges, its
+//! refusals in their order, its mistakes that look right, and what the requests
+//! of document 02 change.
 
+use crate::captures::group_on_wire;
+use crate::compare::{go_through, Settings};
 use crate::dice::Dice;
-use crate::drafts::Generator;
+use crate::drafts::{Generator, Spoiling};
 use crate::group::{check_character, judge, stamp_is_right, write};
+use crate::hexadecimal::hexadecimal;
 use crate::histories::{log_bytes, Item, CALLS_IN_HISTORY};
 use crate::line::{read_whole, Line, PlacedAnswer};
 use crate::listing::listing;
 use crate::numbers::{number_of_call, Answer, Refusal};
 use crate::replay::{read_log, replay, replies_to, Call};
 use crate::station::{counts_of, Station, LINES};
-use crate::table::{all_rules, find_rule, labels_said, Kind, Mode, Season};
+use crate::table::{
+    all_rules, find_rule, labels_said, stamped_rules, Kind, Mode, Rule, Season, SMALL_SEASONS,
+};
+use crate::tally::Place;
 use crate::wire::{all_to_wire, character_of, is_sound, to_wire};
+use std::collections::BTreeSet;
 
 const HISTORIC: u8 = 0;
 const STANDARD: u8 = 1;
@@ -226,16 +234,25 @@ fn season_of_the_six_labels_is_a_space_and_nothing_else() {
         for label in ["DPM1", "DPM2", "DPM3", "FPM1", "FPM2", "FPM3"] {
             assert_eq!(group(label, "00"), if season == b' ' { 1 } else { 12 });
         }
+        // h and e "are right wherever H and E are right" (document 02, M-101).
         for (label, data) in [("DATE", ""), ("UMOY1", "230"), ("CCASN-1", "00000")] {
-            let right = season == b'H' || season == b'E';
-            assert_eq!(group(label, data), if right { 1 } else { 12 });
+            assert_eq!(group(label, data), if season == b' ' { 12 } else { 1 });
         }
     }
 }
 
 #[test]
 fn ranges_of_the_stamp() {
-    let right = |text: &str| stamp_is_right(Season::WinterOrSummer, text.as_bytes());
+    // The four letters, the small ones by document 02, M-101, differ in
+    // nothing.
+    let right = |digits: &str| {
+        let answers = ["H", "E", "h", "e"].map(|letter| {
+            let stamp = [letter, digits].concat();
+            stamp_is_right(Season::WinterOrSummer, stamp.as_bytes())
+        });
+        assert_eq!(answers, [answers[0]; 4], "{digits}");
+        answers[0]
+    };
     for month in 1..=12 {
         for year in [0, 1, 2, 3, 4, 96, 99] {
             let last = match month {
@@ -246,22 +263,22 @@ fn ranges_of_the_stamp() {
             };
             for day in 0..=40 {
                 assert_eq!(
-                    right(&format!("E{year:02}{month:02}{day:02}000000")),
+                    right(&format!("{year:02}{month:02}{day:02}000000")),
                     (1..=last).contains(&day)
                 );
             }
         }
     }
-    assert!(!right("H080001000000"));
-    assert!(!right("H081301000000"));
-    assert!(right("H080101235959"));
-    assert!(!right("H080101240000"));
-    assert!(!right("H080101006000"));
-    assert!(!right("H080101000060"));
-    assert!(!right("H08010100000"));
-    assert!(!right("H0801010000000"));
-    assert!(!right("H08010100000:"));
-    assert!(!right("H 80101000000"));
+    assert!(!right("080001000000"));
+    assert!(!right("081301000000"));
+    assert!(right("080101235959"));
+    assert!(!right("080101240000"));
+    assert!(!right("080101006000"));
+    assert!(!right("080101000060"));
+    assert!(!right("08010100000"));
+    assert!(!right("0801010000000"));
+    assert!(!right("08010100000:"));
+    assert!(!right(" 80101000000"));
 }
 
 #[test]
@@ -988,7 +1005,7 @@ fn unreadable_logs() {
 fn a_line_does_not_depend_on_the_others() {
     for index in 0..30 {
         let mut generator = Generator::new(Dice::for_item(96, 2, index));
-        let history = generator.history();
+        let history = generator.history(index);
         let calls: Vec<Call> = read_log(&log_bytes(&history)).calls;
         assert!(calls.len() >= CALLS_IN_HISTORY);
         for line in 0..LINES {
@@ -1029,5 +1046,237 @@ fn a_line_does_not_depend_on_the_others() {
             };
             assert_eq!(seen(&together), seen(&alone));
         }
+    }
+}
+
+// Document 02, M-101: "Lower-case seasons"
+
+const THE_SIX: [&str; 6] = ["DPM1", "DPM2", "DPM3", "FPM1", "FPM2", "FPM3"];
+
+/// Label, stamp and data of a group, right in all but perhaps the season.
+fn fields_with(rule: &Rule, season: u8) -> [Vec<u8>; 3] {
+    let stamp = [&[season][..], b"081225223518"].concat();
+    [rule.label.clone().into(), stamp, vec![b'0'; rule.width]]
+}
+
+/// The content of such a group.
+fn content_with(rule: &Rule, season: u8) -> Vec<u8> {
+    closed(STANDARD, &fields_with(rule, season).join(&b'\t'))
+}
+
+/// A frame of such groups, on the wire.
+fn frame_with(rules: &[&Rule], season: u8) -> Vec<u8> {
+    let groups = rules
+        .iter()
+        .flat_map(|rule| group_on_wire(&content_with(rule, season)));
+    [0x82].into_iter().chain(groups).chain([0x03]).collect()
+}
+
+fn text(characters: &[u8]) -> &str {
+    std::str::from_utf8(characters).expect("text")
+}
+
+/// "They are right wherever H and E are right, in reader and writer, and stay
+/// wrong for DPM and FPM."
+#[test]
+fn m_101_right_seasons_of_every_stamped_label() {
+    assert_eq!(stamped_rules().len(), 24);
+    for rule in stamped_rules() {
+        let six = THE_SIX.contains(&rule.label.as_str());
+        let right: &[u8] = if six { b" " } else { b"HEhe" };
+        for season in 0..=255 {
+            let [label, stamp, data] = fields_with(rule, season);
+            let content = content_with(rule, season);
+            let mut buffer = [0x55; 60];
+            let writing = write(STANDARD, &label, &stamp, &data, &mut buffer);
+            let judging = judged_with_texts(STANDARD, &content);
+            if right.contains(&season) {
+                // What is written is what was just read, the letter as it came.
+                assert_eq!(judging, (1, label, stamp, data));
+                let wire = group_on_wire(&content);
+                assert_eq!(writing, Ok(wire.len()));
+                assert_eq!(buffer[..wire.len()], wire);
+            } else {
+                assert_eq!(judging, (12, vec![], vec![], vec![]), "{label:?} {season}");
+                assert_eq!(writing, Err(Refusal::WrongStamp), "{label:?} {season}");
+                assert_eq!(buffer, [0x55; 60]);
+            }
+        }
+    }
+}
+
+#[test]
+fn m_101_small_seasons_are_shown_as_they_came() {
+    for rule in stamped_rules() {
+        let six = THE_SIX.contains(&rule.label.as_str());
+        for season in SMALL_SEASONS {
+            let [label, stamp, data] = fields_with(rule, season);
+            let wire = frame_with(&[rule], season);
+            // The listing.
+            let listed = if six {
+                "12\n3\n".to_string()
+            } else {
+                format!("1 {} {} {}\n2\n", text(&label), text(&stamp), text(&data))
+            };
+            assert_eq!(listing(&[b"S", &wire[..]].concat()), listed);
+            // A sheet.
+            let mut station = open_station(0, STANDARD);
+            assert_eq!(station.deliver(0, &wire), Ok(()));
+            let mut sheet = [0xEE; 1080];
+            let taken = wire.len() as u8 - 1;
+            assert_eq!(station.round(&mut sheet), Ok([taken, 0, 0, 0, 0, 0, 0, 0]));
+            let entry = if six {
+                vec![12, 0, 0, 0]
+            } else {
+                let lengths = [1, label.len() as u8, 13, data.len() as u8];
+                [&lengths[..], &label, &stamp, &data].concat()
+            };
+            let (shown, rest) = sheet[24..].split_at(entry.len());
+            assert_eq!(shown, entry);
+            assert!(rest.iter().all(|one| *one == 0xEE));
+            // Replay.
+            let written = group_on_wire(&content_with(rule, season));
+            let replayed = if six {
+                "J 12 - - -\nW 12 0 55\n".to_string()
+            } else {
+                let hex = [&label, &stamp, &data].map(|field| hexadecimal(field));
+                let buffer = hexadecimal(&written);
+                format!("J 1 {}\nW 0 {} {buffer}\n", hex.join(" "), written.len())
+            };
+            let judging = Call::Judge {
+                mode: STANDARD,
+                content: content_with(rule, season),
+            };
+            let writing = Call::Write {
+                mode: STANDARD,
+                label,
+                stamp,
+                data,
+                size: if six { 1 } else { written.len() },
+                fill: 0x55,
+            };
+            let log = log_bytes(&[Item::Call(judging), Item::Call(writing)]);
+            assert_eq!(replay(&log), replayed);
+        }
+    }
+}
+
+/// "After a long outage one meter's clock lost its time": a line sends large
+/// seasons, then small ones, then large ones again.
+#[test]
+fn m_101_a_clock_loses_its_time_and_gets_it_back() {
+    let rules = ["DATE", "SMAXSN", "UMOY1"].map(|label| {
+        let rule = find_rule(Mode::Standard, label.as_bytes());
+        rule.expect("in the list")
+    });
+    let mut capture = b"S".to_vec();
+    let mut listed = String::new();
+    let mut station = open_station(3, STANDARD);
+    for season in *b"HhHEeE" {
+        let frame = frame_with(&rules, season);
+        capture.extend(&frame);
+        let letter = char::from(season);
+        listed.push_str(&format!(
+            "1 DATE {letter}081225223518 \n\
+             1 SMAXSN {letter}081225223518 00000\n\
+             1 UMOY1 {letter}081225223518 000\n\
+             2\n"
+        ));
+        assert_eq!(station.deliver(3, &frame), Ok(()));
+        let mut sheet = [0xEE; 1080];
+        for rule in rules {
+            assert!(station.round(&mut sheet).is_ok());
+            assert_eq!(sheet[24], 1);
+            assert_eq!(sheet[28 + rule.label.len()], season);
+        }
+        assert!(station.round(&mut sheet).is_ok());
+        assert_eq!(sheet[24..28], [2, 0, 0, 0]);
+    }
+    assert_eq!(listing(&capture), listed);
+}
+
+/// A stamp with a small season and a fault elsewhere is made up as well.
+#[test]
+fn m_101_spoilt_stamps_have_all_four_letters() {
+    let mut generator = Generator::new(Dice::new(101));
+    let stamps: Vec<Vec<u8>> = (0..5000)
+        .map(|_| generator.spoilt_draft(Mode::Standard, &[Spoiling::Stamp]))
+        .filter(|draft| draft.rule.stamp == Some(Season::WinterOrSummer))
+        .map(|draft| draft.stamp)
+        .filter(|stamp| stamp.len() == 13 && !stamp_is_right(Season::WinterOrSummer, stamp))
+        .collect();
+    // Month 13, day 00, 29 February of a common year, hour 24, minute and
+    // second 60, each at its place in the stamp.
+    let faults = [
+        (3, "13"),
+        (5, "00"),
+        (3, "0229"),
+        (7, "24"),
+        (9, "60"),
+        (11, "60"),
+    ];
+    for letter in *b"HEhe" {
+        for (place, digits) in faults {
+            let drawn = stamps
+                .iter()
+                .any(|stamp| stamp[0] == letter && stamp[place..].starts_with(digits.as_bytes()));
+            assert!(drawn, "{} {place} {digits}", char::from(letter));
+        }
+    }
+}
+
+/// A spoilt season is wrong for its label: h and e are so for DPM and FPM only.
+#[test]
+fn m_101_spoilt_seasons() {
+    let mut generator = Generator::new(Dice::new(102));
+    let mut of_letters = BTreeSet::new();
+    let mut of_the_six = BTreeSet::new();
+    for _ in 0..5000 {
+        let draft = generator.spoilt_draft(Mode::Standard, &[Spoiling::Season]);
+        match draft.rule.stamp {
+            None => continue,
+            Some(Season::WinterOrSummer) => of_letters.insert(draft.stamp[0]),
+            Some(Season::SpaceOnly) => of_the_six.insert(draft.stamp[0]),
+        };
+    }
+    let has_all =
+        |drawn: &BTreeSet<u8>, wanted: &[u8]| wanted.iter().all(|one| drawn.contains(one));
+    assert!(b"HEhe".iter().all(|one| !of_letters.contains(one)));
+    assert!(has_all(&of_letters, b" DFGIdfgi"));
+    assert!(!of_the_six.contains(&b' '));
+    assert!(has_all(&of_the_six, b"HEhe"));
+}
+
+/// What the gate compares, made without running a program: captures and
+/// histories hold both small seasons with every stamped label, and still every
+/// answer.
+#[test]
+fn m_101_small_seasons_in_the_captures_and_histories_of_the_gate() {
+    let (tally, difference) = go_through(&Settings {
+        seed: 1,
+        count: 2000,
+        listing_program: None,
+        replay_program: None,
+    });
+    assert!(difference.is_none());
+    let places = [
+        (Place::Listing, "listing"),
+        (Place::Sheet, "sheet"),
+        (Place::Judging, "judging"),
+        (Place::Writing, "writing"),
+    ];
+    let report = tally.report(2000, 200);
+    for (place, name) in places {
+        for rule in stamped_rules() {
+            for small in SMALL_SEASONS {
+                let times = tally.times_met(place, &rule.label, small);
+                assert!(times > 0, "{name} {} {}", rule.label, char::from(small));
+            }
+        }
+        let line = format!("  {name}: h with 18 and 6, e with 18 and 6; ");
+        assert!(report.contains(&line), "{report}");
+    }
+    for number in 0..=20 {
+        assert!(tally.times_answered(number) > 0, "{number}");
     }
 }

@@ -1,8 +1,8 @@
-//! One group, read and written (document 01, "One group").
+//! One group, read and written (document 01, "One group"; document 02, M-101).
 
 use crate::numbers::Refusal;
 use crate::table::{find_rule, Mode, Rule, Season};
-use crate::wire::{all_to_wire, CARRIAGE_RETURN, HORIZONTAL_TAB, LINE_FEED, SPACE};
+use crate::wire::{all_to_wire, CARRIAGE_RETURN, HORIZONTAL_TAB, LINE_FEED};
 
 /// "Any other sound character in a group is content, up to 128."
 pub const LONGEST_CONTENT: usize = 128;
@@ -54,18 +54,15 @@ pub fn check_character(summed: &[u8]) -> u8 {
     (sum % 64) as u8 + 32
 }
 
-/// Whether a stamp is right: "a season letter, then YYMMDDhhmmss"; "Month 01
-/// to 12; day within that month, February having 29 days when YY divides by
-/// 4; hour 00 to 23; minute and second 00 to 59."
+/// Whether a stamp is right: "a season letter, then YYMMDDhhmmss"; "The season
+/// is H or E", by document 02, M-101, also h or e, and SP alone for DPM and
+/// FPM; "Month 01 to 12; day within that month, February having 29 days when
+/// YY divides by 4; hour 00 to 23; minute and second 00 to 59."
 pub fn stamp_is_right(season: Season, stamp: &[u8]) -> bool {
     if stamp.len() != STAMP_LENGTH {
         return false;
     }
-    let season_is_right = match season {
-        Season::WinterOrSummer => stamp[0] == b'H' || stamp[0] == b'E',
-        Season::SpaceOnly => stamp[0] == SPACE,
-    };
-    if !season_is_right || !stamp[1..].iter().all(u8::is_ascii_digit) {
+    if !season.characters().contains(&stamp[0]) || !stamp[1..].iter().all(u8::is_ascii_digit) {
         return false;
     }
     let fields: Vec<u32> = stamp[1..]

@@ -47,6 +47,19 @@ enum Plan {
     GroupsAlone,
 }
 
+/// The plans take turns, so that each has its share of the histories. Groups
+/// alone stand twice, so that judging and writing meet every label, and every
+/// stamped one with each small season.
+const PLANS: [Plan; 7] = [
+    Plan::Mixed,
+    Plan::GroupsAlone,
+    Plan::Traffic,
+    Plan::FullInboxes,
+    Plan::GroupsAlone,
+    Plan::TurnEdges,
+    Plan::LongSheets,
+];
+
 /// The five calls, without their fields.
 #[derive(Clone, Copy, Debug)]
 enum CallName {
@@ -66,7 +79,7 @@ impl Plan {
             Plan::FullInboxes => [3, 65, 28, 2, 2],
             Plan::TurnEdges => [16, 30, 50, 2, 2],
             Plan::LongSheets => [4, 40, 40, 8, 8],
-            Plan::GroupsAlone => [2, 4, 4, 45, 45],
+            Plan::GroupsAlone => [2, 3, 3, 41, 51],
         };
         [
             (CallName::Open, open),
@@ -98,17 +111,10 @@ struct Maker<'generator> {
 const ROUNDS_OF_LONG_SHEETS: usize = 4;
 
 impl Generator {
-    /// A history of a hundred calls, now and then followed by something that
-    /// cannot be read.
-    pub fn history(&mut self) -> Vec<Item> {
-        let plan = *self.dice.pick(&[
-            Plan::Mixed,
-            Plan::Traffic,
-            Plan::FullInboxes,
-            Plan::TurnEdges,
-            Plan::LongSheets,
-            Plan::GroupsAlone,
-        ]);
+    /// The history of this number: a hundred calls, now and then followed by
+    /// something that cannot be read.
+    pub fn history(&mut self, number: u64) -> Vec<Item> {
+        let plan = PLANS[number as usize % PLANS.len()];
         let mut maker = Maker {
             generator: self,
             plan,
@@ -132,7 +138,7 @@ impl Generator {
             maker.follow(&call);
             items.push(Item::Call(call));
         }
-        if self.dice.percent(8) {
+        if self.dice.percent(12) {
             items.extend(self.unreadable_tail());
         }
         items
@@ -200,11 +206,15 @@ impl Generator {
     fn judging(&mut self) -> Call {
         let mode = self.mode();
         let content = match self.dice.below(100) {
-            0..=24 => {
+            0..=25 => {
                 self.note("judging: right group");
                 self.right_draft(mode).content()
             }
-            25..=74 => {
+            26..=47 if mode == Mode::Standard => {
+                self.note("judging: small season");
+                self.degraded_draft().content()
+            }
+            26..=81 => {
                 self.note("judging: spoilt group");
                 let draft = self.spoilt_draft(
                     mode,
@@ -213,6 +223,7 @@ impl Generator {
                         Spoiling::Separator,
                         Spoiling::Stamp,
                         Spoiling::Stamp,
+                        Spoiling::Season,
                         Spoiling::Width,
                         Spoiling::Kind,
                         Spoiling::Check,
@@ -221,12 +232,12 @@ impl Generator {
                 );
                 draft.content()
             }
-            75..=92 => {
+            82..=94 => {
                 self.note("judging: content of an edge size");
                 let length = *self.dice.pick(&EDGE_SIZES);
                 self.sized_content(mode, length)
             }
-            93..=97 => {
+            95..=97 => {
                 self.note("judging: noise");
                 let length = self.dice.below(140);
                 (0..length).map(|_| self.dice.byte()).collect()
@@ -245,22 +256,30 @@ impl Generator {
 
     fn writing(&mut self) -> Call {
         let mode = self.mode();
-        let draft = if self.dice.percent(45) {
-            self.note("writing: right fields");
-            self.right_draft(mode)
-        } else {
-            self.note("writing: spoilt fields");
-            self.spoilt_draft(
-                mode,
-                &[
-                    Spoiling::Label,
-                    Spoiling::Stamp,
-                    Spoiling::Stamp,
-                    Spoiling::Width,
-                    Spoiling::Kind,
-                    Spoiling::HighBit,
-                ],
-            )
+        let draft = match self.dice.below(100) {
+            0..=34 => {
+                self.note("writing: right fields");
+                self.right_draft(mode)
+            }
+            35..=66 if mode == Mode::Standard => {
+                self.note("writing: small season");
+                self.degraded_draft()
+            }
+            _ => {
+                self.note("writing: spoilt fields");
+                self.spoilt_draft(
+                    mode,
+                    &[
+                        Spoiling::Label,
+                        Spoiling::Stamp,
+                        Spoiling::Stamp,
+                        Spoiling::Season,
+                        Spoiling::Width,
+                        Spoiling::Kind,
+                        Spoiling::HighBit,
+                    ],
+                )
+            }
         };
         let size = self.buffer_size(&draft);
         let at_most_255 = |mut field: Vec<u8>| {
@@ -280,18 +299,18 @@ impl Generator {
     /// The size of a lent buffer, often just enough or one too short.
     fn buffer_size(&mut self, draft: &Draft) -> usize {
         let needed = group_on_wire(&draft.content()).len();
-        match self.dice.below(10) {
-            0..=2 => {
+        match self.dice.below(12) {
+            0..=4 => {
                 self.note("writing: buffer just long enough");
                 needed
             }
-            3 | 4 => {
+            5 | 6 => {
                 self.note("writing: buffer one too short");
                 needed.saturating_sub(1)
             }
-            5 => needed + 1,
-            6 => self.dice.below(needed + 1),
-            7 => *self.dice.pick(&[0, 1, 2, 4096]),
+            7 => needed + 1,
+            8 => self.dice.below(needed + 1),
+            9 => *self.dice.pick(&[0, 1, 2, 4096]),
             _ => *self.dice.pick(&EDGE_SIZES),
         }
     }
@@ -491,6 +510,9 @@ impl Maker<'_> {
             _ => generator.dice.between(1, 70),
         };
         while self.streams[line].len() < length {
+            if mode == Mode::Standard && generator.dice.percent(40) {
+                self.streams[line].extend(generator.degraded_frame());
+            }
             let more = generator.traffic(mode, 100);
             self.streams[line].extend(more);
         }

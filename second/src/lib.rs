@@ -1,5 +1,5 @@
-//! A second reader of customer telemetry, written from document 01 alone, and
-//! a comparer that holds other programs against it.
+//! A second reader of customer telemetry, written from documents 01 and 02
+//! alone, and a comparer that holds other programs against it.
 //!
 //! It works on whole captures and whole histories, and shares nothing with
 //! any first implementation.
@@ -17,6 +17,7 @@ pub mod numbers;
 pub mod replay;
 pub mod station;
 pub mod table;
+pub mod tally;
 pub mod wire;
 
 #[cfg(test)]

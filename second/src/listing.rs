@@ -1,28 +1,29 @@
 //! The listing of a capture (document 01, "The listing").
 
-use crate::line::read_whole;
+use crate::line::{read_whole, PlacedAnswer};
 use crate::numbers::{Answer, Refusal};
 use crate::table::Mode;
 
-/// All answers of a capture, or 20: "capture empty or not begun by H or S".
-pub fn answers_of_capture(capture: &[u8]) -> Result<Vec<Answer>, Refusal> {
+/// All answers of a capture, their places counted in its wire bytes, or 20:
+/// "capture empty or not begun by H or S".
+pub fn answers_of_capture(capture: &[u8]) -> Result<Vec<PlacedAnswer>, Refusal> {
     let (first, wire) = capture.split_first().ok_or(Refusal::BadCapture)?;
     let mode = match first {
         b'H' => Mode::Historic,
         b'S' => Mode::Standard,
         _ => return Err(Refusal::BadCapture),
     };
-    Ok(read_whole(mode, wire)
-        .into_iter()
-        .map(|placed| placed.answer)
-        .collect())
+    Ok(read_whole(mode, wire))
 }
 
 /// "Output: a line per answer." "Bad capture: `20`."
 pub fn listing(capture: &[u8]) -> String {
     match answers_of_capture(capture) {
         Err(refusal) => format!("{}\n", refusal.number()),
-        Ok(answers) => answers.iter().map(listing_line).collect(),
+        Ok(answers) => answers
+            .iter()
+            .map(|placed| listing_line(&placed.answer))
+            .collect(),
     }
 }
 

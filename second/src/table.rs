@@ -1,4 +1,5 @@
-//! The modes and the two lists of labels (document 01, "One group").
+//! The modes and the two lists of labels (document 01, "One group"), and the
+//! seasons of a stamp (also document 02, M-101).
 //!
 //! The lists are held as the very sentences of document 01 and expanded when
 //! they are first asked for.
@@ -69,12 +70,26 @@ impl Kind {
     }
 }
 
-/// "The season is H or E; for DPM1 to DPM3 and FPM1 to FPM3 it is SP and
-/// nothing else."
+/// Document 01: "The season is H or E; for DPM1 to DPM3 and FPM1 to FPM3 it is
+/// SP and nothing else." Document 02, M-101, adds h and e to the letters.
 #[derive(Clone, Copy, Debug, PartialEq, Eq)]
 pub enum Season {
     WinterOrSummer,
     SpaceOnly,
+}
+
+/// "h and e mean winter and summer time from a clock in degraded mode."
+pub const SMALL_SEASONS: [u8; 2] = *b"he";
+
+impl Season {
+    /// The characters that are right. The small ones "are right wherever H and
+    /// E are right, in reader and writer, and stay wrong for DPM and FPM".
+    pub fn characters(self) -> &'static [u8] {
+        match self {
+            Season::WinterOrSummer => b"HEhe",
+            Season::SpaceOnly => &[SPACE],
+        }
+    }
 }
 
 /// "The rule for each label is read from" the table: this is one rule.
@@ -148,6 +163,14 @@ pub fn find_rule(mode: Mode, label: &[u8]) -> Option<&'static Rule> {
 /// All rules of a mode, in byte order of their labels.
 pub fn all_rules(mode: Mode) -> Vec<&'static Rule> {
     rules_by_label(mode).values().collect()
+}
+
+/// The rules of the stamped labels; all of them are of standard mode.
+pub fn stamped_rules() -> Vec<&'static Rule> {
+    all_rules(Mode::Standard)
+        .into_iter()
+        .filter(|rule| rule.stamp.is_some())
+        .collect()
 }
 
 /// Expands a list: stretches parted by semicolons, each a row of labels and

@@ -67,7 +67,8 @@ fn of_kind(kind: Kind, dice: &mut Dice) -> u8 {
 /// A right stamp. No month has fewer than 28 days, and all days are as good as another here.
 fn stamp(season: Season, dice: &mut Dice) -> Vec<u8> {
     let letter = match season {
-        Season::Letter => dice.pick(b"HE"),
+        // One in eight is from a clock in degraded mode.
+        Season::Letter => dice.pick(b"HEHEHEHEHEHEHEhe"),
         Season::Space => b' ',
     };
     let mut stamp = vec![letter];

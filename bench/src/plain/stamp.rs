@@ -6,7 +6,7 @@ pub const STAMP_LENGTH: usize = 13;
 
 pub fn is_right(season: Season, stamp: &[u8; STAMP_LENGTH]) -> bool {
     let season_is_right = match season {
-        Season::Letter => stamp[0] == b'H' || stamp[0] == b'E',
+        Season::Letter => matches!(stamp[0], b'H' | b'E' | b'h' | b'e'),
         Season::Space => stamp[0] == b' ',
     };
     if !season_is_right || !stamp[1..].iter().all(u8::is_ascii_digit) {

@@ -42,7 +42,7 @@ pub enum Kind {
     Text,
 }
 
-/// What stands first in a stamp: H or E, or a space.
+/// What stands first in a stamp: H, E, h or e, or a space.
 #[derive(Clone, Copy, PartialEq, Eq)]
 pub enum Season {
     Letter,

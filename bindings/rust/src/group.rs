@@ -15,7 +15,9 @@ pub const MOST_WRITTEN: usize = MOST_CONTENT + 2;
 pub struct Group<'a> {
     /// The label.
     pub label: &'a [u8],
-    /// The stamp; empty where the label has none.
+    /// The stamp, as it came: the season, then YYMMDDhhmmss; empty where the label has none. The season is `H` in winter and
+    /// `E` in summer, and `h` or `e` from a clock in degraded mode, which lost its time and was not set again yet. For DPM1
+    /// to DPM3 and FPM1 to FPM3 it is a space.
     pub stamp: &'a [u8],
     /// The data.
     pub data: &'a [u8],

@@ -14,7 +14,7 @@ pub enum Answer<'a> {
     Accepted {
         /// The group's label.
         label: &'a [u8],
-        /// The group's stamp; empty where the label has none.
+        /// The group's stamp, as it came; empty where the label has none. What its season letter says: [`Group`](crate::Group).
         stamp: &'a [u8],
         /// The group's data.
         data: &'a [u8],

@@ -1,4 +1,5 @@
--- Document 01's figures P1 to P12 ("Figures to hold it against"): one table, one statement.
+-- Document 01's figures P1 to P12 ("Figures to hold it against"), one table, one statement; and the same for document 02's
+-- requests.
 use mathlib.Core.Path.{_≡_, refl}
 use mathlib.Core.Bool.{Bool, true, false}
 use mathlib.Core.List.{List, [], _∷_}
@@ -55,3 +56,22 @@ pub figures-hold : AllHold figures
 unfolding judging modeOf read behindLabel fieldsOf checked widthRight kindRight lookup check parts stampAs dateRight daysIn need found pick cut ending historicRows standardRows
 figures-hold =
     (refl, (refl, (refl, (refl, (refl, (refl, (refl, (refl, (refl, (refl, (refl, (refl, (damaged-stx, tt)))))))))))))
+
+-- M-101 names no figures; these are the table of seasons in document 001, 6.2.1.1, with the two stamps that it works out
+-- there, and DPM1, whose season is a space
+abbrev pub laterFigures : List Figure
+laterFigures =
+    stamp "H081225223518" true ∷
+    stamp "E090714074553" true ∷
+    stamp "h081225223518" true ∷
+    stamp "e090714074553" true ∷
+    stamp " 081225223518" false ∷
+    group 1 "DATE\th081225223518\t\t(" 1 ∷
+    group 1 "DPM1\t 081225223518\t00\t4" 1 ∷
+    group 1 "DPM1\th081225223518\t00\t<" 12 ∷
+    group 1 "DPM1\te090714074553\t00\t?" 12 ∷
+    []
+
+pub later-figures-hold : AllHold laterFigures
+unfolding judging modeOf read behindLabel fieldsOf checked widthRight kindRight lookup check parts stampAs dateRight daysIn need found pick cut ending standardRows
+later-figures-hold = (refl, (refl, (refl, (refl, (refl, (refl, (refl, (refl, (refl, tt)))))))))

@@ -18,3 +18,4 @@ pub mod ByNumber
 pub mod Stretches
 pub mod Writer
 pub mod Written
+pub mod Seasons

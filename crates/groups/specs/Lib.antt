@@ -17,6 +17,7 @@ pub mod Inside
 pub mod RightStamps
 pub mod Right
 pub mod Listed
+pub mod Seasons
 pub mod Laws
 pub mod Promises
 pub mod Figures

@@ -1,18 +1,19 @@
 -- What the crate promises of judging and writing groups: only the statements need to be read.
 use mathlib.Core.Path.{_≡_, refl}
 use mathlib.Core.Logic.{_↔_}
+use mathlib.Core.Bool.{not}
 use mathlib.Core.Option.{some}
 use mathlib.Core.List.{List, [], _∷_, _++_, map, List·Memᴰ}
 use Prim.Native.Nat.{ℕ, _+_, _≤_, _<_}
-use lib.Dec.{T, ltb}
+use lib.Dec.{T, eqb, ltb}
 use lib.ListN.{length, getD}
 use Rattle.characters.specs.Answers.{given, every, firstOf}
-use Rattle.characters.specs.Wire.{isSound, wireByteOf}
+use Rattle.characters.specs.Wire.{isSound, wireByteOf, HT}
 use Rattle.groups.specs.Modes.{modeOf, isMode}
 use Rattle.groups.specs.Kinds.{ofKind}
 use Rattle.groups.specs.Table.{Entry, rows}
-use Rattle.groups.specs.Stamps.{stampRight}
-use Rattle.groups.specs.Groups.{Group}
+use Rattle.groups.specs.Stamps.{isStamped, stampRight}
+use Rattle.groups.specs.Groups.{Group, groupOf}
 use Rattle.groups.specs.Numbers.{numberOfRefusal, numberOf, numberOfWriting}
 use Rattle.groups.specs.Judging.{judging, shown, partOf, partStart, Shows}
 use Rattle.groups.specs.Writing.{onTheWire, offTheWire, composing, writing, told, left}
@@ -23,7 +24,9 @@ use Rattle.groups.specs.Spelled.{among, spelled}
 use Rattle.groups.specs.RightStamps.{RightStamp}
 use Rattle.groups.specs.Right.{RightGroup}
 use Rattle.groups.specs.Listed.{page}
+use Rattle.groups.specs.Seasons.{Season, letterOf, degraded, isPeak, closed}
 use Rattle.groups.specs.Laws.Listed.{rows-as-listed}
+use Rattle.groups.specs.Laws.Right.{found-listed}
 use Rattle.groups.specs.Laws.Stamps.{kinds-agree, stamps-agree}
 use Rattle.groups.specs.Laws.Unknown.{known-below}
 use Rattle.groups.specs.Laws.Shown.{shows, part-fits, part-unfit}
@@ -38,13 +41,16 @@ use Rattle.groups.specs.Laws.Stretches.{judged-stretches}
 use Rattle.groups.specs.Laws.OnTheWire.{on-bytes}
 use Rattle.groups.specs.Laws.Writer.{written-first}
 use Rattle.groups.specs.Laws.Written.{written-counted, written-left}
+use Rattle.groups.specs.Laws.Seasons.{degraded-told, degraded-judged, peak-told, peak-judged}
 use Rattle.groups.specs.declared.Mode.{Mode}
+use Rattle.groups.specs.declared.Mode.the-variants.{Standard}
 use Rattle.groups.specs.declared.Refusal.{Refusal}
 use Rattle.groups.specs.declared.Verdict.the-variants as verdict
 use Rattle.groups.specs.declared.Outcome.the-variants as outcome
 use Rattle.groups.specs.declared.Stretch.{Stretch}
 use Rattle.groups.specs.declared.table.Kind.{Kind}
 use Rattle.groups.specs.declared.table.Mark.{Mark}
+use Rattle.groups.specs.declared.table.Rule.{Rule}
 
 -- The numbers of modes are 0 and 1.
 pub modes-exactly : (number : ℕ) → isMode number ≡ ltb number 2
@@ -72,6 +78,30 @@ kind-exactly = kinds-agree
 -- A stamp passes the tests of a mark exactly when it is written as a right stamp of that mark is.
 pub stamp-exactly : (mark : Mark) (s : List ℕ) → T (stampRight mark s) ↔ RightStamp mark s
 stamp-exactly = stamps-agree
+
+-- Document 02, M-101: h and e are right wherever H and E are right. In the writer: in whatever mode, with whatever label,
+-- further digits, data and room, writing tells of the small letter what it tells of the capital.
+pub degraded-written : (number : ℕ) (season : Season) (label rest d : List ℕ) (room : ℕ)
+    → numberOfWriting (told (writing number (groupOf label (degraded season ∷ rest) d) room) .outcome)
+    ≡ numberOfWriting (told (writing number (groupOf label (letterOf season ∷ rest) d) room) .outcome)
+degraded-written number season label rest d room = degraded-told season label rest d room number
+
+-- In the reader: so does judging, of a stamped label, whatever stands behind the letter.
+pub degraded-read : (season : Season) (label rest : List ℕ) (rule : Rule)
+    → List·Memᴰ (record { label = label; rule = rule }) (rows Standard) → T (isStamped (rule .mark))
+    → numberOf (shown (judging 1 (closed (label ++ HT ∷ degraded season ∷ rest))) .verdict)
+    ≡ numberOf (shown (judging 1 (closed (label ++ HT ∷ letterOf season ∷ rest))) .verdict)
+degraded-read season label rest rule listed = degraded-judged label rule (found-listed Standard label rule listed) season rest
+
+-- And they stay wrong for DPM and FPM, as all but a space is: 12, in the writer and in the reader.
+pub peaks-written : (label : List ℕ) (x : ℕ) (rest d : List ℕ) (room : ℕ) → T (isPeak label) → T (not (eqb x 0x20))
+    → numberOfWriting (told (writing 1 (groupOf label (x ∷ rest) d) room) .outcome) ≡ 12
+peaks-written = peak-told
+
+pub peaks-read : (label : List ℕ) (x : ℕ) (rest : List ℕ) → T (isPeak label) → T (not (eqb x 0x20))
+    → length (closed (label ++ HT ∷ x ∷ rest)) ≤ 128
+    → numberOf (shown (judging 1 (closed (label ++ HT ∷ x ∷ rest))) .verdict) ≡ 12
+peaks-read = peak-judged
 
 -- The number that judging tells is that of the first condition that holds, in document 01's order, and 1 where none does.
 pub refused-exactly : (number : ℕ) (c : List ℕ)

@@ -42,9 +42,9 @@ pub record Dated (seasons stamp : List ℕ) : Type 0 where
   pub in-minute : second < 60
   pub written : stamp ≡ season ∷ two year ++ two month ++ two day ++ two hour ++ two minute ++ two second
 
--- "The season is H or E; for DPM1 to DPM3 and FPM1 to FPM3 it is SP and nothing else"; "An absent stamp is an
--- empty stretch"
+-- "The season is H or E; for DPM1 to DPM3 and FPM1 to FPM3 it is SP and nothing else"; h and e "are right wherever H and E
+-- are right" (document 02, M-101); "An absent stamp is an empty stretch"
 abbrev pub RightStamp : Mark → List ℕ → Type 0
 RightStamp Unstamped stamp = stamp ≡ []
-RightStamp Letter stamp = Dated (codes "HE") stamp
+RightStamp Letter stamp = Dated (codes "HEhe") stamp
 RightStamp Space stamp = Dated (codes " ") stamp

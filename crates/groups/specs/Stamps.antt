@@ -68,10 +68,11 @@ dateRight s =
     && minuteRight (minuteOf s)
     && secondRight (secondOf s)
 
--- "The season is H or E; for DPM1 to DPM3 and FPM1 to FPM3 it is SP and nothing else" (H is 0x48, E is 0x45)
+-- "The season is H or E; for DPM1 to DPM3 and FPM1 to FPM3 it is SP and nothing else" (H is 0x48, E is 0x45); h and e "are
+-- right wherever H and E are right .. and stay wrong for DPM and FPM" (document 02, M-101; h is 0x68, e is 0x65)
 abbrev pub seasonRight : Mark → ℕ → Bool
 seasonRight Unstamped c = false
-seasonRight Letter c = eqb c 0x48 || eqb c 0x45
+seasonRight Letter c = eqb c 0x48 || eqb c 0x45 || eqb c 0x68 || eqb c 0x65
 seasonRight Space c = eqb c SP
 
 -- "Marked * is stamped"

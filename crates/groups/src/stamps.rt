@@ -75,7 +75,7 @@ fn season_right(mark: Mark, code: u8) -> bool
 {
     match mark {
         Mark::Unstamped => false,
-        Mark::Letter => (code == b'H') | (code == b'E'),
+        Mark::Letter => (code == b'H') | (code == b'E') | (code == b'h') | (code == b'e'),
         Mark::Space => code == characters::SP,
     }
 }

@@ -1,6 +1,6 @@
 //! "One group": judging and writing one that is given alone.
 
-use crate::wire::{content, group, ETX, STX};
+use crate::wire::{content, frame, group, listing, ETX, STX};
 use espandim::{
     judge, judge_raw, write, write_raw, Answer, Group, Mode, Notice, Refusal, Station, MOST_WRITTEN,
 };
@@ -133,10 +133,18 @@ const HISTORIC: [&str; 9] = [
     "T2 PPOT",
 ];
 
-/// "The season is H or E; for DPM1 to DPM3 and FPM1 to FPM3 it is SP and nothing else."
+/// "The season is H or E; for DPM1 to DPM3 and FPM1 to FPM3 it is SP and nothing else." Document 02, M-101: h and e "are right
+/// wherever H and E are right, in reader and writer, and stay wrong for DPM and FPM".
+fn seasons_of(label: &str) -> &'static [u8] {
+    match label {
+        "DPM1" | "DPM2" | "DPM3" | "FPM1" | "FPM2" | "FPM3" => b" ",
+        _ => b"HEhe",
+    }
+}
+
 fn stamp_of(label: &str) -> &'static [u8] {
     match label {
-        "DPM1" | "DPM2" | "DPM3" | "FPM1" | "FPM2" | "FPM3" => b" 081225223518",
+        _ if seasons_of(label) == b" " => b" 081225223518",
         "SMAXIN" | "UMOY2" | "CCAIN-1" => b"E080629223518",
         _ => b"H081225223518",
     }
@@ -220,6 +228,65 @@ fn what_is_written_for_every_label_reads_back() {
     assert_eq!(labels, [34, 71]);
     assert_eq!(longest, (111, "PJOURF+1"));
     const { assert!(111 <= MOST_WRITTEN) };
+}
+
+#[test]
+fn every_season_is_right_or_wrong_by_its_label() {
+    let mut stamped = 0;
+    for row in STANDARD {
+        let mut words = row.split(' ');
+        let Some(rule) = words.next().unwrap().strip_suffix('*') else {
+            continue;
+        };
+        let (kind, width) = rule.split_at(1);
+        let data = data_of(kind, width.parse().unwrap());
+        for label in words {
+            stamped += 1;
+            for season in 0..=255 {
+                let stamp = [&[season][..], b"080629223518"].concat();
+                let group = fields(label.as_bytes(), &stamp, &data);
+                let content = content(Standard, group.label, group.stamp, group.data);
+                let written = write(Standard, group.label, group.stamp, group.data);
+                if seasons_of(label).contains(&season) {
+                    // The letter is shown as it came.
+                    assert_eq!(judge(Standard, &content), Ok(group));
+                    assert_eq!(written.unwrap().as_bytes(), crate::wire::group(&content));
+                } else {
+                    assert_eq!(judge(Standard, &content), Err(Refusal::StampWrong));
+                    assert_eq!(written.unwrap_err(), Refusal::StampWrong);
+                }
+            }
+        }
+    }
+    assert_eq!(stamped, 24);
+}
+
+/// Document 02, M-101: a meter whose clock lost its time, and then has it again.
+#[test]
+fn a_line_shows_the_season_letter_as_it_came() {
+    let mut bytes = Vec::new();
+    let stamps = [
+        b"H250114175948",
+        b"h000101000217",
+        b"e000701000217",
+        b"H250115093004",
+    ];
+    for stamp in stamps {
+        let date = content(Standard, b"DATE", stamp, b"");
+        let peak = content(Standard, b"DPM1", b" 250118060000", b"00");
+        bytes.extend(frame(&[&date, &peak]));
+    }
+    let degraded = content(Standard, b"DPM1", b"h250118060000", b"00");
+    bytes.extend(frame(&[&degraded]));
+    let mut expected = Vec::new();
+    for stamp in stamps {
+        let stamp = std::str::from_utf8(stamp).unwrap();
+        expected.push(format!("1 DATE {stamp} "));
+        expected.push("1 DPM1  250118060000 00".to_string());
+        expected.push("2".to_string());
+    }
+    expected.extend(["12", "3"].map(String::from));
+    assert_eq!(listing(Standard, &bytes), expected);
 }
 
 #[test]

@@ -11,7 +11,7 @@ use lib.ListN.{length, take, drop, getD, length-drop}
 use lib.Seq.{length-take-le, take-suc, split-at, drop-at, getD-take, getD-drop, take-take, take-add}
 use mir.Facts.{T-not-not, or-no, eqb-no}
 use borrow.Author.Tests.{eq-eqb, ne-eqb, lt-ltb, le-ltb}
-use Rattle.characters.specs.Answers.{Answer, refused, need, found, by-need, by-pick}
+use Rattle.characters.specs.Answers.{Answer, refused, need, found, by-need, by-pick, firstOf}
 use Rattle.groups.specs.Modes.{separator, countedAtEnd}
 use Rattle.groups.specs.Table.{rows, lookup}
 use Rattle.groups.specs.Stamps.{isStamped, stampAs}
@@ -32,6 +32,7 @@ use Rattle.groups.specs.Conditions.{
   stampIn,
   widthWrong,
   kindWrong,
+  fieldConditions,
   conditions,
   markedFields,
   fieldsAt,
@@ -39,7 +40,7 @@ use Rattle.groups.specs.Conditions.{
 use Rattle.groups.specs.Laws.Tests.{split, equal-or}
 use Rattle.groups.specs.Laws.Groups.{total-end}
 use Rattle.groups.specs.Laws.Stamps.{kinds-agree-in}
-use Rattle.groups.specs.Laws.Named.{firstRefusal, numbered}
+use Rattle.groups.specs.Laws.Named.{firstRefusal, numberAs, numbered, first-number}
 use Rattle.groups.specs.Laws.Places.{
   fields-plain,
   fields-short,
@@ -250,6 +251,12 @@ module _ (m : Mode) (r : Rule) (l b : List ℕ) where
       ∙ rw (e, eq-eqb _ _ q, lt-ltb 13 (length b) h, kinds-agree-in (r .kind) (drop 14 b)) (simp Bool·not-not))
       (λ n. fields-unparted m r l b e h n ∙ rw (e, ne-eqb _ _ n, lt-ltb 13 (length b) h)))
       (λ h. fields-short m r l b e h ∙ rw (e, le-ltb 13 (length b) (omega arith)))
+
+  -- and its number
+  pub fields-number : numberAs 1 (fieldsOf m r l b) ≡ firstOf 1 (fieldConditions m b (some r))
+  fields-number =
+      ap (numberAs 1) (fields-told (isStamped (r .mark)) refl)
+      ∙ first-number 1 (namedFields m b (some r)) (groupOf l (stampIn (isStamped (r .mark)) b) (dataIn (isStamped (r .mark)) b))
 
 -- and by the rule that the label has, if it has one
 listed-told : (m : Mode) (c : List ℕ) (o : Option Rule)

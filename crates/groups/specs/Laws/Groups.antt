@@ -146,6 +146,18 @@ pub content-length : (m : Mode) (l b : List ℕ) → length (content m l b) ≡ 
 unfolding content
 content-length m l b = simp length-append (omega arith)
 
+-- a content of a label that is listed, and that is not too long, is read by the label's rule
+pub read-listed : (m : Mode) (l b : List ℕ) (r : Rule) → lookup l (rows m) ≡ some r → length (content m l b) ≤ 128
+    → read m (content m l b) ≡ fieldsOf m r l b
+unfolding read behindLabel content
+read-listed m l b r listed h =
+    need-yes _ _ (le→leb _ _ h)
+    (found-yes _ _ (cut-joined (separator m) l _ (listed-right m l r listed .no-separator))
+    (need-yes _ _ (listed-right m l r listed .some-label)
+    (found-yes _ _ (ending-joined (separator m) b (check m l b))
+    (need-yes _ _ (eqb-refl (check m l b))
+    (found-yes _ _ listed refl)))))
+
 module _ (m : Mode) (g : Group) (r : Rule) (listed : lookup (g .label) (rows m) ≡ some r) (f : RightFields r (g .stamp) (g .«data»)) where
   -- the content of a group fits 128
   pub content-short : length (content m (g .label) (body m (isStamped (r .mark)) (g .stamp) (g .«data»))) ≤ 128
@@ -159,16 +171,11 @@ module _ (m : Mode) (g : Group) (r : Rule) (listed : lookup (g .label) (rows m) 
       )
 
   read-content : read m (content m (g .label) (body m (isStamped (r .mark)) (g .stamp) (g .«data»))) ≡ given g
-  unfolding read behindLabel fieldsOf content
+  unfolding fieldsOf
   read-content =
-      need-yes _ _ (le→leb _ _ content-short)
-      (found-yes _ _ (cut-joined (separator m) (g .label) _ (listed-right m (g .label) r listed .no-separator))
-      (need-yes _ _ (listed-right m (g .label) r listed .some-label)
-      (found-yes _ _ (ending-joined (separator m) (body m (isStamped (r .mark)) (g .stamp) (g .«data»)) (check m (g .label) (body m (isStamped (r .mark)) (g .stamp) (g .«data»))))
-      (need-yes _ _ (eqb-refl (check m (g .label) (body m (isStamped (r .mark)) (g .stamp) (g .«data»))))
-      (found-yes _ _ listed
-      (found-yes _ _ (parts-joined m (isStamped (r .mark)) (r .mark) (g .stamp) (g .«data») (f .stamp-right))
-      (checked-right r (g .stamp) (g .«data») _ f)))))))
+      read-listed m (g .label) (body m (isStamped (r .mark)) (g .stamp) (g .«data»)) r listed content-short
+      ∙ found-yes _ _ (parts-joined m (isStamped (r .mark)) (r .mark) (g .stamp) (g .«data») (f .stamp-right))
+      (checked-right r (g .stamp) (g .«data») _ f)
 
 pub read-right : (m : Mode) (c : List ℕ) (g : Group) → IsGroup m c g → read m c ≡ given g
 read-right m c g i = subst (λ (c : List ℕ). read m c ≡ given g) (i .whole) (read-content m g (i .rule) (i .listed) (i .fields))

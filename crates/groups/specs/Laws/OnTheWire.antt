@@ -57,11 +57,17 @@ of-kind-plain Hex x t =
     (or-yes (within 0x30 0x39 x) (within 0x41 0x46 x) t)
 of-kind-plain Text x t = within-plain 0x20 0x7E x (omega arith) (omega arith) t
 
+-- one that passes a test, or is this one of them
+or-plain : (test : Bool) (x y : ℕ) → T (isPlain y) → (T test → T (isPlain x)) → T (test || eqb x y) → T (isPlain x)
+or-plain test x y p f t = ⊎-elim f (λ u. rw (eqb→eq x y u) p) (or-yes test (eqb x y) t)
+
 -- so is a season
 season-plain : (k : Mark) (x : ℕ) → T (seasonRight k x) → T (isPlain x)
 season-plain Unstamped x t = absurd t
 season-plain Letter x t =
-    ⊎-elim (λ u. rw (eqb→eq x 0x48 u) tt) (λ u. rw (eqb→eq x 0x45 u) tt) (or-yes (eqb x 0x48) (eqb x 0x45) t)
+    or-plain (eqb x 0x48 || eqb x 0x45 || eqb x 0x68) x 0x65 tt
+    (or-plain (eqb x 0x48 || eqb x 0x45) x 0x68 tt
+    (or-plain (eqb x 0x48) x 0x45 tt (λ u. rw (eqb→eq x 0x48 u) tt))) t
 season-plain Space x t = rw (eqb→eq x SP t) tt
 
 -- a separator is one of them or HT

@@ -77,6 +77,10 @@ listed-lookup l (x ∷ es) r t h = ⊎-elim here (λ k. there k (listed-lookup l
     there : In l r es → lookup l es ≡ some r → pick (same l (x .label)) (some (x .rule)) (lookup l es) ≡ some r
     there k e = pick-no (same l (x .label)) _ _ (not-T (same l (x .label)) (differ k)) ∙ e
 
+-- and in the table of a mode one that stands there is found
+pub found-listed : (m : Mode) (l : List ℕ) (r : Rule) → In l r (rows m) → lookup l (rows m) ≡ some r
+found-listed m l r h = listed-lookup l (rows m) r (labels-distinct m) h
+
 -- ---- Right fields and a right group
 
 -- the fields with their separators are label, separator and body
@@ -123,7 +127,7 @@ right-group m c g r =
     let kind = r .rule .kind in
     record {
       rule = r .rule;
-      listed = listed-lookup (g .label) (rows m) (r .rule) (labels-distinct m) (r .listed);
+      listed = found-listed m (g .label) (r .rule) (r .listed);
       fields = record {
         stamp-right = stamps-agree mark (g .stamp) .1 (r .stamp-right);
         width-right = yes-eqb (r .width-right);

@@ -322,8 +322,13 @@ or-none : (b : Bool) → (b || false) ≡ b
 or-none true = refl
 or-none false = refl
 
-letter-is : (c : ℕ) → seasonRight Letter c ≡ among (codes "HE") c
-letter-is c = sym (rw (or-none (eqb c 0x45)))
+in-a-row : (a b c d : Bool) → (a || b || c || d) ≡ (a || (b || (c || d)))
+in-a-row true b c d = refl
+in-a-row false true c d = refl
+in-a-row false false c d = refl
+
+letter-is : (c : ℕ) → seasonRight Letter c ≡ among (codes "HEhe") c
+letter-is c = in-a-row (eqb c 0x48) (eqb c 0x45) (eqb c 0x68) (eqb c 0x65) ∙ sym (rw (or-none (eqb c 0x65)))
 
 space-is : (c : ℕ) → seasonRight Space c ≡ among (codes " ") c
 space-is c = sym (or-none (eqb c SP))
@@ -350,5 +355,5 @@ module _ (mark : Mark) (seasons : List ℕ) (season-is : (c : ℕ) → seasonRig
 pub stamps-agree : (mark : Mark) (s : List ℕ) → T (stampRight mark s) ↔ RightStamp mark s
 unfolding stampAs
 stamps-agree Unstamped s = (λ t. sym (length-zero s (eqb→eq (length s) 0 t)), λ e. rw e tt)
-stamps-agree Letter s = (stamp-dated Letter (codes "HE") letter-is s, dated-stamp Letter (codes "HE") letter-is s)
+stamps-agree Letter s = (stamp-dated Letter (codes "HEhe") letter-is s, dated-stamp Letter (codes "HEhe") letter-is s)
 stamps-agree Space s = (stamp-dated Space (codes " ") space-is s, dated-stamp Space (codes " ") space-is s)
