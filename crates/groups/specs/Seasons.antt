@@ -29,6 +29,7 @@ peaks = words (codes "DPM1 DPM2 DPM3 FPM1 FPM2 FPM3")
 abbrev pub isPeak : List ℕ → Bool
 isPeak label = isAmong peaks label
 
--- a content of standard mode with its right check character, by all that stands before its final separator
+-- a content of standard mode, by all that stands before its final separator, with its right check character: "add the
+-- character codes, take the remainder by 64, add 32", the final separator "counted too"
 abbrev pub closed : List ℕ → List ℕ
 closed front = front ++ HT ∷ (total (front ++ HT ∷ []) % 64 + 32) ∷ []

@@ -149,14 +149,14 @@ abbrev judged : List ℕ → ℕ
 judged c = numberOf (shown (judging 1 c) .verdict)
 
 -- 8 where it is too long
-judged-long : (c : List ℕ) → 128 < length c → judged c ≡ 8
+long-is-eight : (c : List ℕ) → 128 < length c → judged c ≡ 8
 unfolding givenWhen firstOf pick
-judged-long c h = judged-first 1 c ∙ eight-long Standard c h
+long-is-eight c h = judged-first 1 c ∙ eight-long Standard c h
 
 -- and as reading tells it
-judged-read : (c : List ℕ) → judged c ≡ numberAs 1 (read Standard c)
+told-as-read : (c : List ℕ) → judged c ≡ numberAs 1 (read Standard c)
 unfolding givenWhen firstOf pick
-judged-read c = judged-first 1 c ∙ sym (read-number Standard c)
+told-as-read c = judged-first 1 c ∙ sym (read-number Standard c)
 
 -- where a stamped label has two stamps that are as right as each other, the same conditions hold
 alike : (rule : Rule) (x y : ℕ) (rest : List ℕ) → isStamped (rule .mark) ≡ true
@@ -176,7 +176,7 @@ module _ (label : List ℕ) (rule : Rule) (listed : lookup label (rows Standard)
   judged-fields : (body : List ℕ) → length (content Standard label body) ≤ 128
       → judged (content Standard label body) ≡ firstOf 1 (fieldConditions Standard body (some rule))
   judged-fields body h =
-      judged-read (content Standard label body)
+      told-as-read (content Standard label body)
       ∙ ap (numberAs 1) (read-listed Standard label body rule listed h)
       ∙ fields-number Standard rule label body
 
@@ -194,7 +194,7 @@ module _ (label : List ℕ) (rule : Rule) (listed : lookup label (rows Standard)
       (λ h. judged-fields small h
       ∙ alike rule (degraded season) (letterOf season) rest (is-true t) (degraded-stamp (rule .mark) season (take 12 rest))
       ∙ sym (judged-fields capital (omega arith)))
-      (λ h. judged-long (content Standard label small) h ∙ sym (judged-long (content Standard label capital) (omega arith))))
+      (λ h. long-is-eight (content Standard label small) h ∙ sym (long-is-eight (content Standard label capital) (omega arith))))
 
 -- of DPM and FPM it tells 12 where the season is no space
 pub peak-judged : (label : List ℕ) (x : ℕ) (rest : List ℕ) → T (isPeak label) → T (not (eqb x SP))
