@@ -36,7 +36,7 @@ struct Figure {
 }
 
 /// How many times the plain reader's instructions ours may take.
-const LINE_AIM: f64 = 1.25;
+const LINE_AIM: f64 = 1.0;
 const STATION_AIM: f64 = 1.35;
 
 fn aim_of(part: &str) -> Option<f64> {

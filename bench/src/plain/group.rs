@@ -80,10 +80,15 @@ pub fn check_character(mode: Mode, body: &[u8]) -> u8 {
 
 fn all_of_kind(kind: Kind, data: &[u8]) -> bool {
     match kind {
-        Kind::Decimal => data.iter().all(u8::is_ascii_digit),
-        Kind::Hexadecimal => data
-            .iter()
-            .all(|one| matches!(one, b'0'..=b'9' | b'A'..=b'F')),
-        Kind::Text => data.iter().all(|one| matches!(one, b' '..=b'~')),
+        Kind::Decimal => all(data, |one| one.is_ascii_digit()),
+        Kind::Hexadecimal => all(data, |one| matches!(one, b'0'..=b'9' | b'A'..=b'F')),
+        Kind::Text => all(data, |one| matches!(one, b' '..=b'~')),
     }
+}
+
+/// Whether all are right: eight are tested at once, and what is left one by one.
+fn all(data: &[u8], is_right: impl Fn(u8) -> bool) -> bool {
+    let mut eights = data.chunks_exact(8);
+    eights.all(|eight| eight.iter().fold(true, |all, &one| all & is_right(one)))
+        && eights.remainder().iter().all(|&one| is_right(one))
 }

@@ -1,7 +1,9 @@
 //! The plain reader: document 01 as one writes it in Rust for speed, with state that is changed in place.
 //!
 //! It is what the proved reader is measured against, so it is neither slowed down nor driven to the utmost: safe code,
-//! a byte at a time, and no tables but those that the compiler makes of a `match`.
+//! and no tables but those that the compiler makes of a `match`. What makes the proved reader quick it has too, where that
+//! helps it: eight characters tested and laid at once, the kind of data by eights, the digits of a stamp at once, LF and CR
+//! looked for first. One walk for sum and separator it has not: two are quicker here.
 
 pub mod group;
 pub mod line;

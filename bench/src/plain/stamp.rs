@@ -9,7 +9,7 @@ pub fn is_right(season: Season, stamp: &[u8; STAMP_LENGTH]) -> bool {
         Season::Letter => matches!(stamp[0], b'H' | b'E' | b'h' | b'e'),
         Season::Space => stamp[0] == b' ',
     };
-    if !season_is_right || !stamp[1..].iter().all(u8::is_ascii_digit) {
+    if !season_is_right || !all_digits(&stamp[1..]) {
         return false;
     }
     let number = |place: usize| (stamp[place] - b'0') * 10 + (stamp[place + 1] - b'0');
@@ -20,6 +20,12 @@ pub fn is_right(season: Season, stamp: &[u8; STAMP_LENGTH]) -> bool {
         && hour <= 23
         && minute <= 59
         && second <= 59
+}
+
+/// No test has a way out, so that the compiler tests several at once.
+fn all_digits(text: &[u8]) -> bool {
+    text.iter()
+        .fold(true, |all, one| all & one.is_ascii_digit())
 }
 
 pub fn days_in(year: u8, month: u8) -> u8 {

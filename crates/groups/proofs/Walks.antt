@@ -1,22 +1,28 @@
 -- The definitions over lists, as a loop from the front uses them: at a place, what is left decides.
-use mathlib.Core.Path.{_≡_, refl, sym, ap, _∙_}
+use mathlib.Core.Path.{_≡_, refl, sym, ap, subst, _∙_}
 use mathlib.Core.Bool.{Bool, true, false, _&&_}
 use mathlib.Core.List.{List, [], _∷_, _++_}
-use Prim.Native.Nat.{ℕ, zero, suc, _+_, _-_, _%_, _<_, _≤_}
-use native.Mathlib.Numerals.{add-one}
+use Prim.Native.Nat.{ℕ, zero, suc, _+_, _-_, _*_, _%_, _<_, _≤_}
+use native.Mathlib.Numerals.{add-one, unary-clauses}
 use native.Mathlib.Omega.{arith}
-use lib.Dec.{eqb, ltb}
+use lib.Dec.{T, eqb, leb, leb→le}
 use lib.ListN.{length, getD, take, drop, drop-of-length-le, length-drop}
-use lib.Seq.{drop-cons, drop-length, take-all}
+use lib.Seq.{drop-cons, getD-drop, take-add, take-all}
+use mir.Facts.{and-yes}
 use borrow.Author.Tests.{eq-eqb, ne-eqb, eqb-true, eqb-false}
-use Rattle.characters.specs.Answers.{every, pick}
+use Rattle.characters.specs.Answers.{every, every-at, from-true, is-true, pick}
+use Rattle.characters.specs.Passing.{Pass}
+use Rattle.groups.specs.Kinds.{ofKind}
 use Rattle.groups.specs.Modes.{separator, countedAtEnd}
 use Rattle.groups.specs.Table.{same}
 use Rattle.groups.specs.Groups.{total, check}
 use Rattle.groups.specs.Conditions.{firstAt}
-use Rattle.groups.specs.Inside.{wrongAt, checkFrom, FrontSum}
+use Rattle.groups.specs.Inside.{wrongAt, checkFrom, RightUpTo, ContentWalk, Split, FrontSum}
 use Rattle.groups.specs.Laws.Conditions.{front-behind}
 use Rattle.groups.specs.declared.Mode.{Mode}
+use Rattle.groups.specs.declared.reading.Parted.{Parted}
+use Rattle.groups.specs.declared.table.Kind.the-variants.{Digits}
+use Rattle.groups.specs.declared.table.Rule.{Rule}
 use Rattle.groups.specs.declared.Mode.the-variants.{Historic, Standard}
 
 -- a part that runs to the end
@@ -49,6 +55,15 @@ module _ (f : ℕ → Bool) (c : List ℕ) (i : ℕ) where
   unfolding wrongAt
   wrong-over h = rw (drop-of-length-le c h)
 
+-- as many as pass from a place on are counted with those before it
+pub right-further : (f : ℕ → Bool) (c : List ℕ) (i n : ℕ) → RightUpTo f c i → i + n ≤ length c → Pass f c i (i + n)
+    → RightUpTo f c (i + n)
+right-further f c i zero r h right = simp unary-clauses r
+right-further f c i (suc n) r h right =
+    let before = right-further f c i n r (omega arith) (λ k a b. right k a (omega arith)) in
+    let on = wrong-on f c (i + n) (omega arith) (right (i + n) (omega arith) (omega arith)) in
+    (h, simp unary-clauses (omega (arith, before .1, simp unary-clauses at on)))
+
 eqb-suc : (a b : ℕ) → eqb (suc a) (suc b) ≡ eqb a b
 eqb-suc a b = go (eqb a b) refl
   where
@@ -76,6 +91,27 @@ all-right f c e = sym (wrong-nowhere f c) ∙ eq-eqb _ _ e
 pub some-wrong : (f : ℕ → Bool) (c : List ℕ) → (wrongAt f c ≡ length c → ⊥) → every f c ≡ false
 some-wrong f c e = sym (wrong-nowhere f c) ∙ ne-eqb _ _ e
 
+-- where all from a place on pass, each does
+right-behind : (f : ℕ → Bool) (c : List ℕ) (a : ℕ) → every f (drop a c) ≡ true → Pass f c a (length c)
+right-behind f c a e i h k =
+    let place : a + (i - a) ≡ i = omega arith in
+    let one : T (f (getD (drop a c) (i - a) 0)) =
+    every-at f (drop a c) 0 (from-true e) (i - a) (simp length-drop (omega arith)) in
+    is-true (rw (getD-drop, place) at one)
+
+digit-least : (x : ℕ) → ofKind Digits x ≡ true → 48 ≤ x
+digit-least x e = leb→le 48 x (and-yes (leb 48 x) (leb x 57) (from-true e) .0)
+
+-- any two behind the season of a stamp whose digits are right
+pub two-digits-at : (s : List ℕ) → length s ≡ 13 → every (ofKind Digits) (drop 1 s) ≡ true → (i : ℕ) → 1 ≤ i → i < 12
+    → (i + 1 < length s) × (48 ≤ getD s i 0) × (48 ≤ getD s (i + 1) 0)
+two-digits-at s n e i h k =
+    let right = right-behind (ofKind Digits) s 1 e in (
+      omega arith,
+      digit-least _ (right i h (omega arith)),
+      digit-least _ (right (i + 1) (omega arith) (omega arith)),
+    )
+
 module _ (c : List ℕ) (i : ℕ) where
   pub total-on : i < length c → total (drop i c) ≡ getD c i 0 + total (drop (i + 1) c)
   total-on h = rw (add-one i, drop-cons c i 0 h)
@@ -100,18 +136,40 @@ pub check-front : (m : Mode) (l rest : List ℕ) (front : ℕ) → FrontSum m l 
 unfolding check
 check-front m l rest front f h = rw (f .front-is h)
 
-pub front-summed : (m : Mode) (c : List ℕ) (f front : ℕ) → f ≡ firstAt (separator m) c
-    → (front ≡ total (take (length c - 2) c)) × (front ≤ 32640) → FrontSum m (take f c) (drop (f + 1) c) front
-front-summed m c f front e s =
-    record { small = s .1; front-is = λ h. s .0 ∙ ap total (front-behind (separator m) c f e h) }
+pub front-summed : (m : Mode) (c : List ℕ) (f front : ℕ) → ContentWalk (separator m) c f front
+    → FrontSum m (take f c) (drop (f + 1) c) front
+front-summed m c f front w = record {
+  small = w .small;
+  front-is = λ h.
+      let n = length-drop (f + 1) c in
+      w .sum-is (omega arith) ∙ ap total (front-behind (separator m) c f (w .first-is) h);
+}
+
+-- the sum up to a place, and the sum from one place to another
+pub total-upto : (c : List ℕ) (i : ℕ) → i < length c → total (take (i + 1) c) ≡ total (take i c) + getD c i 0
+total-upto c i h =
+    rw (take-add i 1 c, total-append (take i c) (take 1 (drop i c)), drop-cons c i 0 h) (omega arith)
+
+pub total-between : (c : List ℕ) (a e : ℕ) → a ≤ e → total (take a c) + total (take (e - a) (drop a c)) ≡ total (take e c)
+total-between c a e h =
+    let split : e ≡ a + (e - a) = omega arith in
+    sym (total-append (take a c) (take (e - a) (drop a c))) ∙ ap total (sym (take-add a (e - a) c))
+    ∙ ap (λ (n : ℕ). total (take n c)) (sym split)
+
+-- codes below 256 add up to at most 255 each
+pub total-most : (c : List ℕ) (n : ℕ) → ((i : ℕ) → getD c i 0 < 256) → total (take n c) ≤ 255 * n
+total-most c zero h = omega arith
+total-most [] (suc n) h = omega arith
+total-most (x ∷ c) (suc n) h = omega (arith, h 0, total-most c n (λ i. h (suc i)))
+
+-- what a body's parting says, at the end that it is known to have given
+pub split-at : (m : Mode) (rule : Rule) (b : List ℕ) {given told : Parted} → Split m rule b given → given ≡ told
+    → Split m rule b told
+split-at m rule b h e = subst (λ (p : Parted). Split m rule b p) e h
 
 pub separator-small : (m : Mode) → separator m ≤ 32
 separator-small Historic = omega arith
 separator-small Standard = omega arith
-
-pub counted-small : (m : Mode) → countedAtEnd m ≤ 32
-counted-small Historic = omega arith
-counted-small Standard = omega arith
 
 and-false : (b : Bool) → (b && false) ≡ false
 and-false true = refl

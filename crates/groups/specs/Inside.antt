@@ -4,19 +4,24 @@ use mathlib.Core.Path.{_≡_}
 use mathlib.Core.Bool.{Bool}
 use mathlib.Core.Option.{Option, none, some}
 use mathlib.Core.List.{List, [], _∷_, _++_}
-use Prim.Native.Nat.{ℕ, suc, _+_, _-_, _%_, _≤_}
+use Prim.Native.Nat.{ℕ, suc, _+_, _-_, _*_, _%_, _≤_}
 use lib.Dec.{T as So, leb}
-use lib.ListN.{length, take}
+use lib.ListN.{length, take, drop}
 use lib.Seq.{sets}
 use Rattle.characters.specs.Answers.{Answer, refused, given, pick}
 use Rattle.groups.specs.Modes.{separator, countedAtEnd}
 use Rattle.groups.specs.Table.{Entry}
 use Rattle.groups.specs.Stamps.{isStamped, stampRight}
 use Rattle.groups.specs.Fields.{longest, widthRight, kindRight, checked}
-use Rattle.groups.specs.Groups.{Group, content, body, total}
+use Rattle.groups.specs.Groups.{Group, groupOf, content, body, total, fieldsOf}
+use Rattle.groups.specs.Conditions.{firstAt}
+use Rattle.groups.specs.Judging.{stampSpan}
 use Rattle.groups.specs.Writing.{into}
 use Rattle.groups.specs.declared.Mode.{Mode}
 use Rattle.groups.specs.declared.Refusal.{Refusal}
+use Rattle.groups.specs.declared.Refusal.the-variants.{StampWrong}
+use Rattle.groups.specs.declared.reading.Parted.{Parted}
+use Rattle.groups.specs.declared.reading.Parted.the-variants.{At, Unparted}
 use Rattle.groups.specs.declared.Verdict.{Verdict}
 use Rattle.groups.specs.declared.Verdict.the-variants.{Accepted, Refused}
 use Rattle.groups.specs.declared.modes.Chosen.{Chosen}
@@ -64,6 +69,32 @@ labelFits r = leb (r .1) 9
 unfoldable pub wrongAt : (ℕ → Bool) → List ℕ → ℕ
 wrongAt f [] = 0
 wrongAt f (x ∷ xs) = pick (f x) (suc (wrongAt f xs)) 0
+
+-- the first n elements pass a test, so that the first that fails is the first in what is left
+abbrev pub RightUpTo : (ℕ → Bool) → List ℕ → ℕ → Type 0
+RightUpTo f c n = (n ≤ length c) × (wrongAt f c ≡ n + wrongAt f (drop n c))
+
+-- the first of a code in a text, the length where there is none, and the sum of all before it
+pub record LabelWalk (code : ℕ) (text : List ℕ) (first sum : ℕ) : Type 0 where
+  pub first-is : first ≡ firstAt code text
+  pub first-most : first ≤ length text
+  pub sum-is : sum ≡ total (take first text)
+  pub sum-most : sum ≤ 255 * first
+
+-- the first separator of a content, and the sum of all but the last two characters, where the separator is none of them
+pub record ContentWalk (s : ℕ) (c : List ℕ) (first sum : ℕ) : Type 0 where
+  pub first-is : first ≡ firstAt s c
+  pub small : sum ≤ 32640
+  pub sum-is : first + 3 ≤ length c → sum ≡ total (take (length c - 2) c)
+
+-- where a body's stamp ends, and so what its fields are; or that it is not parted
+abbrev pub Split : Mode → Rule → List ℕ → Parted → Type 0
+Split m rule b (At end) =
+    (end ≤ length b)
+    × (stampSpan end ≤ length b)
+    × ((label : List ℕ) → fieldsOf m rule label b
+    ≡ checked rule (take end b) (drop (stampSpan end) b) (groupOf label (take end b) (drop (stampSpan end) b)))
+Split m rule b Unparted = (label : List ℕ) → fieldsOf m rule label b ≡ refused StampWrong
 
 -- the check character from the sum of the body
 unfoldable pub checkFrom : Mode → List ℕ → ℕ → ℕ

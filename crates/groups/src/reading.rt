@@ -11,15 +11,14 @@ use crate::modes;
 use crate::stamps;
 use crate::table::Rule;
 ghost use mathlib.Core.Path.{_≡_};
-ghost use Prim.Native.Nat.{_+_, _-_, _*_, _%_, _≤_, _<_};
-ghost use lib.ListN.{length, take};
+ghost use Prim.Native.Nat.{_+_, _%_, _≤_};
+ghost use lib.ListN.{length};
 ghost use Rattle.characters.specs.Answers.{refused, given};
 ghost use Rattle.groups.specs.Fields.{checked};
 ghost use Rattle.groups.specs.Modes.{countedAtEnd};
 ghost use Rattle.groups.specs.Groups.{total, groupOf, fieldsOf, behindLabel, read as readOf};
-ghost use Rattle.groups.specs.Conditions.{firstAt};
 ghost use Rattle.groups.specs.Judging.{shown, stampSpan, stampStretch};
-ghost use Rattle.groups.specs.Inside.{checkFrom, FrontSum};
+ghost use Rattle.groups.specs.Inside.{checkFrom, ContentWalk, FrontSum, LabelWalk, Split};
 
 // The sum of the codes.
 pub(crate) fn sum(text: &[u8]) -> u32
@@ -35,31 +34,48 @@ pub(crate) fn sum(text: &[u8]) -> u32
     sum
 }
 
-// The place of the first character of this code; the length where there is none.
-fn first(text: &[u8], code: u8) -> usize
-    ensures { λ r. ⌜ r ≡ firstAt code (now (text .entry)) ⌝ }
-{
-    let mut i = 0;
-    while i < text.len() {
-        if text[i] == code {
-            return i;
-        }
-        i += 1;
-    }
-    i
+// What a walk over characters found: the place of the first of a code, the length where there is none, and the sum of
+// those that it went over.
+pub struct Walked {
+    pub first: usize,
+    pub sum: u32,
 }
 
-// The sum of all characters of a content but the last two: of the label, its separator and the body.
-fn front_sum(content: &[u8]) -> u32
-    requires { ⌜ length (now content) ≤ 128 ⌝ }
-    ensures { λ r. ⌜ (r ≡ total (take (length (now (content .entry)) - 2) (now (content .entry)))) × (r ≤ 32640) ⌝ }
+// Goes up to the first character of this code.
+fn walk_label(text: &[u8], code: u8) -> Walked
+    requires { ⌜ length (now text) ≤ 128 ⌝ }
+    ensures { λ r. ⌜ LabelWalk code (now (text .entry)) (r .first) (r .sum) ⌝ }
 {
-    let n = content.len();
-    if n < 2 {
-        return 0;
+    let mut sum: u32 = 0;
+    let mut i = 0;
+    while i < text.len() {
+        let one = text[i];
+        if one == code {
+            return Walked { first: i, sum };
+        }
+        sum += one as u32;
+        i += 1;
     }
-    let end = n - 2;
-    sum(&content[..end])
+    Walked { first: i, sum }
+}
+
+// Goes over a content once, for its first separator and its sum (M-103): up to the separator, and from there on up to the
+// last two characters, where it is not one of them.
+fn walk(content: &[u8], separator: u8) -> Walked
+    requires { ⌜ length (now content) ≤ 128 ⌝ }
+    ensures { λ r. ⌜ ContentWalk separator (now (content .entry)) (r .first) (r .sum) ⌝ }
+{
+    let label = walk_label(content, separator);
+    let first = label.first;
+    let before = label.sum;
+    let n = content.len();
+    if n - first < 3 {
+        return Walked { first, sum: before };
+    }
+    let closing = n - 2;
+    let behind = sum(&content[first..closing]);
+    let all = before + behind;
+    Walked { first, sum: all }
 }
 
 // The check character of a label, its separator and a body, from the sum of them all.
@@ -157,25 +173,44 @@ fn finish(rule: Rule, label: &[u8], stamp: &[u8], data: &[u8]) -> Judged
     }
 }
 
-// The fields of a label with this rule and a body, the characters between the first separator and the final one.
-fn fields_of(mode: Mode, rule: Rule, label: &[u8], body: &[u8]) -> Judged
-    ensures { λ r. ⌜ r ≡ shown (fieldsOf mode rule (now (label .entry)) (now (body .entry))) ⌝ }
+// Where the stamp of a body ends, 0 where the label has none; or a stamped label's body that is not parted.
+pub(crate) enum Parted {
+    At(usize),
+    Unparted,
+}
+
+fn stamp_end(mode: Mode, rule: Rule, body: &[u8]) -> Parted
+    ensures { λ r. ⌜ Split mode rule (now (body .entry)) r ⌝ }
 {
     let mark = rule.mark;
     if stamps::is_stamped(mark) {
         if body.len() < 14 {
-            return refuse(Refusal::StampWrong);
+            return Parted::Unparted;
         }
         if body[13] != modes::separator_of(mode) {
-            return refuse(Refusal::StampWrong);
+            return Parted::Unparted;
         }
-        return finish(rule, label, &body[..13], &body[14..]);
+        return Parted::At(13);
     }
-    finish(rule, label, &body[..0], body)
+    Parted::At(0)
 }
 
-// A label, all that stands behind its separator, and the sum of all but the last two of these characters: one sum for
-// the whole content is quicker than one for each part.
+// The fields of a label with this rule and a body, the characters between the first separator and the final one. `finish`
+// is called in one place, so that the compiler puts it there and passes nothing through memory.
+fn fields_of(mode: Mode, rule: Rule, label: &[u8], body: &[u8]) -> Judged
+    ensures { λ r. ⌜ r ≡ shown (fieldsOf mode rule (now (label .entry)) (now (body .entry))) ⌝ }
+{
+    let parted = stamp_end(mode, rule, body);
+    match parted {
+        Parted::At(end) => {
+            let span = stamp_span(end);
+            finish(rule, label, &body[..end], &body[span..])
+        }
+        Parted::Unparted => refuse(Refusal::StampWrong),
+    }
+}
+
+// A label, all that stands behind its separator, and the sum of all but the last two of these characters.
 fn behind_label(mode: Mode, label: &[u8], rest: &[u8], front: u32) -> Judged
     requires { ⌜ FrontSum mode (now label) (now rest) front ⌝ }
     ensures { λ r. ⌜ r ≡ shown (behindLabel mode (now (label .entry)) (now (rest .entry))) ⌝ }
@@ -206,7 +241,8 @@ pub(crate) fn read(mode: Mode, content: &[u8]) -> Judged
     if 128 < n {
         return refuse(Refusal::TooLong);
     }
-    let at = first(content, modes::separator_of(mode));
+    let walked = walk(content, modes::separator_of(mode));
+    let at = walked.first;
     if n <= at {
         return refuse(Refusal::Misshapen);
     }
@@ -214,5 +250,5 @@ pub(crate) fn read(mode: Mode, content: &[u8]) -> Judged
         return refuse(Refusal::Misshapen);
     }
     let next = at + 1;
-    behind_label(mode, &content[..at], &content[next..], front_sum(content))
+    behind_label(mode, &content[..at], &content[next..], walked.sum)
 }

@@ -3,8 +3,8 @@ use crate::fields;
 use crate::table::Kind;
 use crate::table::Mark;
 ghost use mathlib.Core.Path.{_≡_};
-ghost use Prim.Native.Nat.{_+_, _-_, _<_};
-ghost use lib.ListN.{length};
+ghost use Prim.Native.Nat.{_+_, _-_, _≤_, _<_};
+ghost use lib.ListN.{length, getD};
 ghost use Rattle.groups.specs.Kinds.{within};
 ghost use Rattle.groups.specs.Stamps.{twoDigits, daysIn, dateRight, isStamped, seasonRight, stampRight};
 
@@ -24,18 +24,17 @@ fn lies_within(low: u32, high: u32, number: u32) -> bool
     (low <= number) & (number <= high)
 }
 
-// What a digit stands for; of any other character a number too, which no one asks for.
+// What a digit stands for.
 fn digit(code: u8) -> u32
+    requires { ⌜ 48 ≤ code ⌝ }
     ensures { λ r. ⌜ (r ≡ code - 48) × (r < 256) ⌝ }
 {
-    if code < 48 {
-        return 0;
-    }
     (code - 48) as u32
 }
 
+// The number that two digits are.
 fn two_digits(text: &[u8], at: usize) -> u32
-    requires { ⌜ at + 1 < length (now text) ⌝ }
+    requires { ⌜ (at + 1 < length (now text)) × (48 ≤ getD (now text) at 0) × (48 ≤ getD (now text) (at + 1) 0) ⌝ }
     ensures { λ r. ⌜ (r ≡ twoDigits (now (text .entry)) at) × (r < 4000) ⌝ }
 {
     digit(text[at]) * 10 + digit(text[at + 1])
@@ -60,10 +59,12 @@ fn date_right(stamp: &[u8]) -> bool
     requires { ⌜ length (now stamp) ≡ 13 ⌝ }
     ensures { λ r. ⌜ r ≡ dateRight (now (stamp .entry)) ⌝ }
 {
+    if fields::wrong_at(Kind::Digits, &stamp[1..]) != 12 {
+        return false;
+    }
     let month = two_digits(stamp, 3);
     let days = days_in(two_digits(stamp, 1), month);
-    (fields::wrong_at(Kind::Digits, &stamp[1..]) == 12)
-        & lies_within(1, 12, month)
+    lies_within(1, 12, month)
         & lies_within(1, days, two_digits(stamp, 5))
         & lies_within(0, 23, two_digits(stamp, 7))
         & lies_within(0, 59, two_digits(stamp, 9))

@@ -1,6 +1,6 @@
--- The characters of a group, in a row: each does what `step` would do with it.
-use mathlib.Core.Path.{_≡_, refl, sym, _∙_}
-use mathlib.Core.Bool.{Bool, false}
+-- Bytes in a row: each does what `step` would do with it.
+use mathlib.Core.Path.{_≡_, refl, sym, ap, subst, _∙_}
+use mathlib.Core.Bool.{Bool, true, false, _&&_, _||_}
 use mathlib.Core.List.{List, [], _∷_}
 use Prim.Native.Nat.{ℕ, _+_, _-_, _≤_, _<_}
 use native.Mathlib.Nat.{add-zero, add-assoc}
@@ -8,18 +8,20 @@ use native.Mathlib.Numerals.{add-one}
 use native.Mathlib.Omega.{arith}
 use lib.ListN.{length, getD, set, take, drop, length-drop}
 use lib.Seq.{drop-cons, drop-drop, take-all}
-use borrow.Author.Tests.{lt-ltb, le-ltb}
+use lib.Dec.{T, eqb, leb}
+use borrow.Author.Tests.{lt-ltb, le-ltb, ne-eqb, eqb-true, leb-true}
 use Rattle.groups.specs.Laws.Tests.{split}
 use Rattle.characters.specs.Answers.{pick}
-use Rattle.characters.specs.Wire.{LF}
-use Rattle.characters.specs.WireLaws.{control-wires}
+use Rattle.characters.specs.Passing.{Pass}
+use Rattle.characters.specs.Wire.{isSound, characterOf, wireByteOf, STX, ETX, EOT, HT, LF, CR, SP}
+use Rattle.characters.specs.WireLaws.{control-wires, sound-exactly, wire-character}
 use Rattle.line.specs.Laws.Written.{wire-symbol}
 use Rattle.line.specs.Symbols.{soundSymbol, symbolOf}
 use Rattle.line.specs.Rules.{move}
 use Rattle.line.specs.State.{phaseOf, heldIn, stateOf}
-use Rattle.line.specs.Steps.{acted, quietOf, stepped, fed}
+use Rattle.line.specs.Steps.{acted, quietOf, Stepped, stepped, fed}
 use Rattle.line.specs.Views.{held-most, mode-kept, phase-back}
-use Rattle.line.specs.Runs.{Adds, Passes, PassesFrom, Runs, RunsQuietly}
+use Rattle.line.specs.Runs.{Adds, AddsOn, emptyRun, isPlainByte, Passes, Runs, RunsQuietly, Takes}
 use Rattle.line.specs.declared.LineState.{LineState}
 use Rattle.line.specs.declared.rules.Symbol.{Symbol}
 use Rattle.line.specs.declared.rules.Symbol.the-variants.{Stx, Etx, Eot, Lf, Cr, Damaged, Text}
@@ -28,42 +30,64 @@ use Rattle.line.specs.declared.rules.Phase.the-variants.{Outside, Frame,
 use Rattle.line.specs.declared.rules.Move.the-variants.{Quiet, Opens}
 use Rattle.line.specs.declared.rows.Passed.{Passed}
 use Rattle.line.specs.declared.rows.Run.{Run}
+use Rattle.line.specs.declared.step.Reaction.{Reaction}
 
-module _ (mode : ℕ) (f d o : Bool) where
-  held-back : (h : ℕ) → h ≤ 128 → heldIn (stateOf mode (Group f d o) h) ≡ h
-  unfolding heldIn pick
-  held-back h k = split 128 h (λ a. let e : h ≡ 128 = omega arith in rw (le-ltb h 128 a) (sym e)) (λ a. rw (lt-ltb h 128 a))
+-- ---- A line in a phase, whose group holds so many characters
 
-  -- a character joins the content
-  text-joins : (h : ℕ) (g : List ℕ) (b c : ℕ) → h < 128 → symbolOf b ≡ Text c
-      → stepped (stateOf mode (Group f d o) h) g b
-      ≡ record { result = quietOf mode (Group f d o) (h + 1); content = set g h c }
-  unfolding stepped pick
-  text-joins h g b c k e = rw (phase-back mode (Group f d o) h, held-back h (omega arith), e, lt-ltb h 128 k)
+group-held : (mode : ℕ) (f d o : Bool) (h : ℕ) → h ≤ 128 → heldIn (stateOf mode (Group f d o) h) ≡ h
+unfolding heldIn pick
+group-held mode f d o h k =
+    split 128 h (λ a. let e : h ≡ 128 = omega arith in rw (le-ltb h 128 a) (sym e)) (λ a. rw (lt-ltb h 128 a))
 
-  pub text-on : (n h : ℕ) (g bs : List ℕ) (i c : ℕ) → i < length bs → h < 128 → symbolOf (getD bs i 0) ≡ Text c
-      → fed n (stateOf mode (Group f d o) h) g (drop i bs)
-      ≡ fed (n + 1) (stateOf mode (Group f d o) (h + 1)) (set g h c) (drop (i + 1) bs)
-  unfolding fed
-  text-on n h g bs i c j k e = rw (drop-cons bs i 0 j, text-joins h g (getD bs i 0) c k e, add-one i)
+-- outside of groups no content is looked at, and in a group it is as long as it was written
+content-kept : (mode : ℕ) (p : Phase) (h : ℕ) (g : List ℕ) (y : Symbol) → h ≤ 128
+    → acted mode (heldIn (stateOf mode p h)) g (move p y) ≡ acted mode h g (move p y)
+content-kept mode Outside h g Stx k = refl
+content-kept mode Outside h g Etx k = refl
+content-kept mode Outside h g Eot k = refl
+content-kept mode Outside h g Lf k = refl
+content-kept mode Outside h g Cr k = refl
+content-kept mode Outside h g Damaged k = refl
+content-kept mode Outside h g (Text c) k = refl
+content-kept mode (Frame flaw) h g Stx k = refl
+content-kept mode (Frame flaw) h g Etx k = refl
+content-kept mode (Frame flaw) h g Eot k = refl
+content-kept mode (Frame flaw) h g Lf k = refl
+content-kept mode (Frame flaw) h g Cr k = refl
+content-kept mode (Frame flaw) h g Damaged k = refl
+content-kept mode (Frame flaw) h g (Text c) k = refl
+content-kept mode (Group f d o) h g y k = rw (group-held mode f d o h k)
 
--- the numbers of a line in a group are read as those that a call writes
-module _ (l : LineState) (f d o : Bool) (e : phaseOf l ≡ Group f d o) where
-  reads-same : (g : List ℕ) (b : ℕ) → stepped l g b ≡ stepped (stateOf (l .mode) (Group f d o) (heldIn l)) g b
-  unfolding stepped
-  reads-same g b = rw (phase-back (l .mode) (Group f d o) (heldIn l), held-back (l .mode) f d o (heldIn l) (held-most l), e)
+steps-as : (mode : ℕ) (p : Phase) (h : ℕ) (g : List ℕ) (b : ℕ) → h ≤ 128
+    → stepped (stateOf mode p h) g b ≡ acted mode h g (move p (symbolOf b))
+unfolding stepped
+steps-as mode p h g b k = rw (phase-back mode p h, mode-kept mode p h) (content-kept mode p h g (symbolOf b) k)
 
-  pub as-written : (n : ℕ) (g bs : List ℕ) → 0 < length bs
-      → fed n l g bs ≡ fed n (stateOf (l .mode) (Group f d o) (heldIn l)) g bs
-  unfolding fed
-  as-written n g [] h = absurd (omega arith)
-  as-written n g (b ∷ bs) h = rw (reads-same g b)
+pub stepped-as : (mode : ℕ) (p : Phase) (h : ℕ) (g : List ℕ) (b : ℕ) {r : Reaction} {g' : List ℕ} → h ≤ 128
+    → Stepped (acted mode h g (move p (symbolOf b))) r g' → Stepped (stepped (stateOf mode p h) g b) r g'
+stepped-as mode p h g b k s = rw (steps-as mode p h g b k) s
+
+-- the numbers of a line are read as those that a call writes
+as-written : (l : LineState) (n : ℕ) (g bs : List ℕ) → 0 < length bs
+    → fed n l g bs ≡ fed n (stateOf (l .mode) (phaseOf l) (heldIn l)) g bs
+unfolding fed stepped
+as-written l n g [] h = absurd (omega arith)
+as-written l n g (b ∷ bs) h = rw (steps-as (l .mode) (phaseOf l) (heldIn l) g b (held-most l))
+
+-- a character joins the content
+text-on : (mode : ℕ) (f d o : Bool) (n h : ℕ) (g bs : List ℕ) (i c : ℕ) → i < length bs → h < 128
+    → symbolOf (getD bs i 0) ≡ Text c
+    → fed n (stateOf mode (Group f d o) h) g (drop i bs)
+    ≡ fed (n + 1) (stateOf mode (Group f d o) (h + 1)) (set g h c) (drop (i + 1) bs)
+unfolding fed pick
+text-on mode f d o n h g bs i c j k e =
+    rw (drop-cons bs i 0 j, steps-as mode (Group f d o) h g (getD bs i 0) (omega arith), e, lt-ltb h 128 k, add-one i)
 
 -- ---- So many characters at the front of the bytes
 
 pub adds-none : (held : ℕ) (g bs : List ℕ) → held ≤ 128 → Adds held g bs 0 g
 adds-none held g bs h =
-    record { most = omega arith; room = omega arith; goes = λ mode f d o n. rw (add-zero n, add-zero held) }
+    record { most = omega arith; room = omega arith; goes = λ f d o mode n. rw (add-zero n, add-zero held) }
 
 pub adds-one : (held : ℕ) (g₀ g bs : List ℕ) (i c : ℕ) → Adds held g₀ bs i g → i < length bs → held + i < 128
     → symbolOf (getD bs i 0) ≡ Text c → Adds held g₀ bs (i + 1) (set g (held + i) c)
@@ -72,61 +96,72 @@ adds-one held g₀ g bs i c a h k e =
       most = omega arith;
       room = omega arith;
       goes =
-          λ mode f d o n.
-          a .goes mode f d o n
+          λ f d o mode n.
+          a .goes f d o mode n
           ∙ rw (add-assoc n i 1, add-assoc held i 1) at (text-on mode f d o (n + i) (held + i) g bs i c h k e);
     }
 
--- ---- A line that takes them
+-- ---- Plain bytes
 
-pub runs-none : (l : LineState) (g bs : List ℕ) → Runs l g bs (record { line = l; count = 0 }) g
-runs-none l g bs = record { most = omega arith; goes = λ n h. rw (add-zero n) }
+and-both : (a b : Bool) → (a && b) ≡ true → (a ≡ true) × (b ≡ true)
+and-both true b e = (refl, e)
+and-both false b e = absurd (subst (λ (t : Bool). T t) (sym e) tt)
 
-pub runs-on : (l : LineState) {p : Phase} {f d o : Bool} {g bs left : List ℕ} {held count : ℕ} {s : LineState}
-    → p ≡ phaseOf l → p ≡ Group f d o → held ≡ heldIn l → Adds held g bs count left
-    → s ≡ stateOf (l .mode) (Group f d o) (held + count) → Runs l g bs (record { line = s; count = count }) left
-runs-on l {f = f} {d} {o} {g = g} {bs} {count = count} e q h a w =
-    record {
-      most = a .most;
-      goes =
-          λ n some.
-          as-written l f d o (sym e ∙ q) n g bs some
-          ∙ rw (← h, w) (a .goes (l .mode) f d o n);
-    }
+-- HT is its own wire byte, and no control character of the line
+tab-character : characterOf HT ≡ HT
+tab-character = rw (control-wires .3) at (wire-character HT (omega arith))
 
--- ---- Within a stretch, of which i bytes were taken before
+tab-text : symbolOf HT ≡ Text (characterOf HT)
+unfolding soundSymbol pick
+tab-text = rw tab-character (rw (control-wires .3) at (wire-symbol HT (omega arith)))
 
-module _ (l : LineState) (g bs : List ℕ) (i : ℕ) (h : i < length bs) (r : Run) (g' : List ℕ)
-    (runs : Runs l g (take (length bs - i) (drop i bs)) r g') where
-  rest-is : take (length bs - i) (drop i bs) ≡ drop i bs
-  rest-is = take-all (length bs - i) (drop i bs) (simp length-drop (omega arith))
+-- a plain byte is a character
+plain-text : (b : ℕ) → isPlainByte b ≡ true → symbolOf b ≡ Text (characterOf b)
+unfolding isPlainByte symbolOf soundSymbol pick
+plain-text b e = go (leb SP (characterOf b)) refl (and-both (isSound b) _ e)
+  where
+    text : (c : ℕ) → 32 ≤ c → soundSymbol c ≡ Text c
+    text c h =
+        rw (
+          ne-eqb c 2 (λ z. omega arith),
+          ne-eqb c 3 (λ z. omega arith),
+          ne-eqb c 4 (λ z. omega arith),
+          ne-eqb c 10 (λ z. omega arith),
+          ne-eqb c 13 (λ z. omega arith),
+        )
 
-  pub run-most : i + r .count ≤ length bs
-  run-most =
-      let most = rw rest-is at (runs .most) in
-      let long : length (drop i bs) ≡ length bs - i = length-drop i bs in
-      omega arith
+    go : (t : Bool) → leb SP (characterOf b) ≡ t → (isSound b ≡ true) × ((t || eqb b HT) ≡ true)
+        → pick (isSound b) (soundSymbol (characterOf b)) Damaged ≡ Text (characterOf b)
+    go true s h = rw (h .0) (text (characterOf b) (leb-true SP (characterOf b) s))
+    go false s h = subst (λ (n : ℕ). symbolOf n ≡ Text (characterOf n)) (sym (eqb-true b HT (h .1))) tab-text
 
-  run-from : (n : ℕ) → fed n l g (drop i bs) ≡ fed (n + r .count) (r .line) g' (drop (i + r .count) bs)
-  run-from n =
-      let some : 0 < length (drop i bs) = simp length-drop (omega arith) in
-      let goes = rw rest-is at (runs .goes n) in
-      goes some ∙ rw (drop-drop (r .count) i bs)
+-- one plain character more, laid at its place
+adds-plain : (held from k : ℕ) (bs g₀ : List ℕ) {g : List ℕ} → held + (from + 8) ≤ 128 → from + 8 ≤ length bs
+    → Pass isPlainByte bs from (from + 8) → k < 8 → Adds held g₀ bs (from + k) g
+    → Adds held g₀ bs (from + (k + 1)) (set g (held + from + k) (characterOf (getD bs (from + k) 0)))
+adds-plain held from k bs g₀ {g = g} room long plain h a =
+    rw (add-assoc held from k, ← (add-assoc from k 1))
+    (adds-one held g₀ g bs (from + k) _ a (omega arith) (omega arith) (plain-text _ (plain (from + k) (omega arith) (omega arith))))
 
-  pub run-on : fed i l g (drop i bs) ≡ fed (i + r .count) (r .line) g' (drop (i + r .count) bs)
-  run-on = run-from i
+-- eight of them
+module _ (held from : ℕ) (bs g : List ℕ) where
+  abbrev laid : ℕ → List ℕ → List ℕ
+  laid k g = set g (held + from + k) (characterOf (getD bs (from + k) 0))
 
--- ---- A line without content
+  pub adds-eight : held + (from + 8) ≤ 128 → from + 8 ≤ length bs → Pass isPlainByte bs from (from + 8)
+      → AddsOn held bs from g (from + 8) (laid 7 (laid 6 (laid 5 (laid 4 (laid 3 (laid 2 (laid 1
+      (set g (held + from) (characterOf (getD bs from 0))))))))))
+  adds-eight room long plain content first =
+      let one = adds-one held content g bs from _ first (omega arith) (omega arith) (plain-text _ (plain from (omega arith) (omega arith))) in
+      let two = adds-plain held from 1 bs content room long plain (omega arith) one in
+      let three = adds-plain held from 2 bs content room long plain (omega arith) two in
+      let four = adds-plain held from 3 bs content room long plain (omega arith) three in
+      let five = adds-plain held from 4 bs content room long plain (omega arith) four in
+      let six = adds-plain held from 5 bs content room long plain (omega arith) five in
+      let seven = adds-plain held from 6 bs content room long plain (omega arith) six in
+      adds-plain held from 7 bs content room long plain (omega arith) seven
 
-empty-held : (mode : ℕ) (p : Phase) → heldIn (stateOf mode p 0) ≡ 0
-unfolding heldIn pick
-empty-held mode Outside = refl
-empty-held mode (Frame flaw) = refl
-empty-held mode (Group f d o) = refl
-
-empty-steps : (mode : ℕ) (p : Phase) (g : List ℕ) (b : ℕ) → stepped (stateOf mode p 0) g b ≡ acted mode 0 g (move p (symbolOf b))
-unfolding stepped
-empty-steps mode p g b = rw (phase-back mode p 0, empty-held mode p, mode-kept mode p 0)
+-- ---- Bytes outside of groups
 
 pub passes-none : (p : Phase) (bs : List ℕ) → Passes p bs (record { phase = p; count = 0 })
 passes-none p bs = record { most = omega arith; goes = λ mode n g. rw (add-zero n) }
@@ -145,85 +180,131 @@ module _ (p q : Phase) (bs : List ℕ) (i : ℕ) (a : Passes p bs (record { phas
       }
 
   pub passes-quiet : (t : Phase) → move q (symbolOf (getD bs i 0)) ≡ Quiet t → Passes p bs (record { phase = t; count = i + 1 })
-  passes-quiet t e = passes-by t (λ mode g. empty-steps mode q g (getD bs i 0) ∙ rw e)
+  passes-quiet t e = passes-by t (λ mode g. steps-as mode q 0 g (getD bs i 0) (omega arith) ∙ rw e)
 
   pub passes-opens : (flaw : Bool) → move q (symbolOf (getD bs i 0)) ≡ Opens flaw
       → Passes p bs (record { phase = Group flaw false false; count = i + 1 })
-  passes-opens flaw e = passes-by (Group flaw false false) (λ mode g. empty-steps mode q g (getD bs i 0) ∙ rw e)
+  passes-opens flaw e = passes-by (Group flaw false false) (λ mode g. steps-as mode q 0 g (getD bs i 0) (omega arith) ∙ rw e)
 
-pub passes-from : {mode : ℕ} {p : Phase} {bs : List ℕ} {a : Passed} {s : LineState} → Passes p bs a
-    → s ≡ stateOf mode (a .phase) 0 → PassesFrom mode p bs (record { line = s; count = a .count })
-passes-from {mode = mode} a e = record { most = a .most; goes = λ n g. a .goes mode n g ∙ rw e }
+-- outside, nothing but an STX does anything
+other-character : (c : ℕ) → eqb c STX ≡ false → move Outside (soundSymbol c) ≡ Quiet Outside
+unfolding soundSymbol pick
+other-character c e = rw e (go (eqb c ETX) (eqb c EOT) (eqb c LF) (eqb c CR))
+  where
+    go : (etx eot lf cr : Bool)
+        → move Outside (pick etx Etx (pick eot Eot (pick lf Lf (pick cr Cr (Text c))))) ≡ Quiet Outside
+    go true eot lf cr = refl
+    go false true lf cr = refl
+    go false false true cr = refl
+    go false false false true = refl
+    go false false false false = refl
+
+pub passes-other : (b stx : ℕ) → b < 256 → stx ≡ wireByteOf STX → (b ≡ stx → ⊥) → move Outside (symbolOf b) ≡ Quiet Outside
+unfolding symbolOf pick
+passes-other b stx h w other = go (isSound b) (eqb (characterOf b) STX) refl refl
+  where
+    go : (sound begins : Bool) → isSound b ≡ sound → eqb (characterOf b) STX ≡ begins
+        → move Outside (pick sound (soundSymbol (characterOf b)) Damaged) ≡ Quiet Outside
+    go false begins s e = refl
+    go true false s e = other-character (characterOf b) e
+    go true true s e =
+        absurd (other (sym (sound-exactly b h .0 s) ∙ ap wireByteOf (eqb-true (characterOf b) STX e) ∙ sym w))
+
+pub passes-stx : {b stx : ℕ} → stx ≡ wireByteOf STX → b ≡ stx → move Outside (symbolOf b) ≡ Quiet (Frame false)
+unfolding soundSymbol pick
+passes-stx w e = rw (e, w, wire-symbol STX (omega arith))
 
 -- an LF in a frame
 lf-symbol : symbolOf 10 ≡ Lf
 unfolding soundSymbol pick
 lf-symbol = rw (control-wires .4) at (wire-symbol LF (omega arith))
 
-pub lf-from : (mode : ℕ) (flaw : Bool) (bs : List ℕ) (s : LineState) → 0 < length bs → getD bs 0 0 ≡ 10
-    → s ≡ stateOf mode (Group flaw false false) 0 → PassesFrom mode (Frame flaw) bs (record { line = s; count = 1 })
-lf-from mode flaw bs s h e q =
-    passes-from (passes-opens (Frame flaw) (Frame flaw) bs 0 (passes-none (Frame flaw) bs) h flaw (rw (e, lf-symbol))) q
+pub passes-lf : (flaw : Bool) (bs : List ℕ) → 0 < length bs → getD bs 0 0 ≡ 10
+    → Passes (Frame flaw) bs (record { phase = Group flaw false false; count = 1 })
+passes-lf flaw bs h e =
+    passes-opens (Frame flaw) (Frame flaw) bs 0 (passes-none (Frame flaw) bs) h flaw (rw (e, lf-symbol))
 
--- outside of groups no content is looked at
-outside-empty : (mode k : ℕ) (g : List ℕ) (y : Symbol) → acted mode k g (move Outside y) ≡ acted mode 0 g (move Outside y)
-outside-empty mode k g Stx = refl
-outside-empty mode k g Etx = refl
-outside-empty mode k g Eot = refl
-outside-empty mode k g Lf = refl
-outside-empty mode k g Cr = refl
-outside-empty mode k g Damaged = refl
-outside-empty mode k g (Text c) = refl
+-- what a frame takes without an answer flaws it
+pub quiet-flaws : (flaw : Bool) (y : Symbol) (t : Phase) → move (Frame flaw) y ≡ Quiet t
+    → move (Frame flaw) y ≡ Quiet (Frame true)
+quiet-flaws flaw Stx t e = let z : _≡_ {A = ℕ} 0 1 = cc e in absurd (omega arith)
+quiet-flaws flaw Etx t e = let z : _≡_ {A = ℕ} 0 1 = cc e in absurd (omega arith)
+quiet-flaws flaw Eot t e = let z : _≡_ {A = ℕ} 0 1 = cc e in absurd (omega arith)
+quiet-flaws flaw Lf t e = let z : _≡_ {A = ℕ} 0 1 = cc e in absurd (omega arith)
+quiet-flaws flaw Cr t e = refl
+quiet-flaws flaw Damaged t e = refl
+quiet-flaws flaw (Text c) t e = refl
 
-frame-empty : (mode k : ℕ) (g : List ℕ) (flaw : Bool) (y : Symbol)
-    → acted mode k g (move (Frame flaw) y) ≡ acted mode 0 g (move (Frame flaw) y)
-frame-empty mode k g flaw Stx = refl
-frame-empty mode k g flaw Etx = refl
-frame-empty mode k g flaw Eot = refl
-frame-empty mode k g flaw Lf = refl
-frame-empty mode k g flaw Cr = refl
-frame-empty mode k g flaw Damaged = refl
-frame-empty mode k g flaw (Text c) = refl
+-- ---- A line that takes them
 
-module _ (l : LineState) (p : Phase) (e : phaseOf l ≡ p)
-    (empty : (k : ℕ) (g : List ℕ) (y : Symbol) → acted (l .mode) k g (move p y) ≡ acted (l .mode) 0 g (move p y)) where
-  as-empty : (n : ℕ) (g bs : List ℕ) → 0 < length bs → fed n l g bs ≡ fed n (stateOf (l .mode) p 0) g bs
-  unfolding fed stepped
-  as-empty n g [] h = absurd (omega arith)
-  as-empty n g (b ∷ bs) h = rw (phase-back (l .mode) p 0, empty-held (l .mode) p, mode-kept (l .mode) p 0, e, empty (heldIn l) g (symbolOf b))
+-- outside of groups a line holds no content
+pub runs-passed : (l : LineState) {p : Phase} {bs : List ℕ} {a : Passed} {r : Run} → p ≡ phaseOf l
+    → ((mode h : ℕ) → stateOf mode p h ≡ stateOf mode p 0) → Passes p bs a → r ≡ emptyRun a → RunsQuietly l bs r
+runs-passed l {bs = bs} e empty a q g =
+    rw q (record {
+      most = a .most;
+      held-most = omega arith;
+      goes =
+          λ n some.
+          rw (← e, empty (l .mode) (heldIn l)) at (as-written l n g bs some)
+          ∙ a .goes (l .mode) n g;
+    })
 
-  runs-from : {bs : List ℕ} (r : Run) → PassesFrom (l .mode) p bs r → RunsQuietly l bs r
-  runs-from {bs = bs} r a = record { most = a .most; goes = λ g n h. as-empty n g bs h ∙ a .goes n g }
+pub runs-group : (l : LineState) {p : Phase} {f d o : Bool} {bs : List ℕ} {h : ℕ} → p ≡ phaseOf l → p ≡ Group f d o
+    → h ≡ heldIn l → RunsQuietly l bs (record { phase = Group f d o; held = h; count = 0 })
+runs-group l {bs = bs} e q k g =
+    record {
+      most = omega arith;
+      held-most = omega (arith, k, held-most l);
+      goes = λ n some. rw (← e, q, ← k) at (as-written l n g bs some) ∙ rw (add-zero n);
+    }
 
-pub runs-outside : (l : LineState) {bs : List ℕ} (r : Run) → phaseOf l ≡ Outside → PassesFrom (l .mode) Outside bs r
-    → RunsQuietly l bs r
-runs-outside l r e = runs-from l Outside e (outside-empty (l .mode)) r
+pub takes-none : (p : Phase) (held : ℕ) (g bs : List ℕ) → held ≤ 128 → Takes p held g bs 0 g
+takes-none p held g bs h =
+    record { most = omega arith; room = omega arith; goes = λ mode n. rw (add-zero n, add-zero held) }
 
-pub runs-in-frame : (l : LineState) (flaw : Bool) {bs : List ℕ} (r : Run) → phaseOf l ≡ Frame flaw
-    → PassesFrom (l .mode) (Frame flaw) bs r → RunsQuietly l bs r
-runs-in-frame l flaw r e = runs-from l (Frame flaw) e (λ k g y. frame-empty (l .mode) k g flaw y) r
+pub takes-added : {p : Phase} {f d o : Bool} {held : ℕ} {g bs : List ℕ} {count : ℕ} {left : List ℕ} → p ≡ Group f d o
+    → Adds held g bs count left → Takes p held g bs count left
+takes-added {f = f} {d} {o} e a = rw e (record { most = a .most; room = a .room; goes = a .goes f d o })
 
--- ---- Two rows
+-- what is left of a stretch, as it is lent
+rest-is : (bs : List ℕ) (i : ℕ) → take (length bs - i) (drop i bs) ≡ drop i bs
+rest-is bs i = take-all (length bs - i) (drop i bs) (simp length-drop (omega arith))
 
--- a row that looks at no content, of a line with content
-pub runs-with : {l : LineState} (g : List ℕ) {bs : List ℕ} {r : Run} → RunsQuietly l bs r → Runs l g bs r g
-runs-with g x = record { most = x .most; goes = x .goes g }
+-- the characters of a group behind the bytes outside of it
+module _ {l : LineState} {g g' bs : List ℕ} (a : Run) (more : ℕ) (x : RunsQuietly l bs a)
+    (y : Takes (a .phase) (a .held) g (take (length bs - a .count) (drop (a .count) bs)) more g') where
+  pub rows-most : a .count + more ≤ length bs
+  rows-most =
+      let most = rw (rest-is bs (a .count)) at (y .most) in
+      let long : length (drop (a .count) bs) ≡ length bs - a .count = length-drop (a .count) bs in
+      let first = x g .most in
+      omega arith
 
-pub quiet-none : (l : LineState) (bs : List ℕ) → RunsQuietly l bs (record { line = l; count = 0 })
-quiet-none l bs = record { most = omega arith; goes = λ g n h. rw (add-zero n) }
-
-module _ {l : LineState} {g g' bs : List ℕ} (a b : Run) (x : RunsQuietly l bs a)
-    (y : Runs (a .line) g (take (length bs - a .count) (drop (a .count) bs)) b g') (h : a .count < length bs) where
-  pub rows-most : a .count + b .count ≤ length bs
-  rows-most = run-most (a .line) g bs (a .count) h b g' y
-
-  pub rows-joined : Runs l g bs (record { line = b .line; count = a .count + b .count }) g'
+  pub rows-joined : Runs l g bs (record { phase = a .phase; held = a .held + more; count = a .count + more }) g'
   rows-joined =
       record {
         most = rows-most;
+        held-most = y .room;
         goes =
             λ n some.
-            x .goes g n some
-            ∙ run-from (a .line) g bs (a .count) h b g' y (n + a .count)
-            ∙ rw (add-assoc n (a .count) (b .count));
+            x g .goes n some
+            ∙ rw (rest-is bs (a .count)) at (y .goes (l .mode) (n + a .count))
+            ∙ rw (drop-drop more (a .count) bs, add-assoc n (a .count) more);
       }
+
+-- a stretch of which i bytes were taken before
+module _ (l : LineState) (g bs : List ℕ) (i : ℕ) (h : i < length bs) (r : Run) (g' : List ℕ)
+    (runs : Runs l g (take (length bs - i) (drop i bs)) r g') where
+  pub run-most : i + r .count ≤ length bs
+  run-most =
+      let most = rw (rest-is bs i) at (runs .most) in
+      let long : length (drop i bs) ≡ length bs - i = length-drop i bs in
+      omega arith
+
+  pub run-on : fed i l g (drop i bs)
+      ≡ fed (i + r .count) (stateOf (l .mode) (r .phase) (r .held)) g' (drop (i + r .count) bs)
+  run-on =
+      let some : 0 < length (drop i bs) = simp length-drop (omega arith) in
+      let goes = rw (rest-is bs i) at (runs .goes i) in
+      goes some ∙ rw (drop-drop (r .count) i bs)

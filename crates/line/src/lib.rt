@@ -90,12 +90,17 @@ pub fn feed(line: LineState, content: &mut [u8; 128], bytes: &[u8]) -> Taken
     let mut i = 0;
     while i < bytes.len() {
         let row = rows::take_row(at, content, &bytes[i..]);
+        let phase = row.phase;
+        let held = row.held;
         i += row.count;
-        at = row.line;
         if i == bytes.len() {
-            break;
+            return Taken {
+                line: state::state_of(at.mode, phase, held),
+                count: i,
+                heard: Heard::Nothing,
+            };
         }
-        let stepped = step::step(at, content, bytes[i]);
+        let stepped = step::step(at.mode, phase, held, content, bytes[i]);
         let next = stepped.line;
         let heard = stepped.heard;
         i += 1;

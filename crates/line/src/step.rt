@@ -11,7 +11,9 @@ use groups::Refusal;
 use groups::Verdict;
 ghost use mathlib.Core.Path.{_≡_};
 ghost use lib.ListN.{take};
-ghost use Rattle.line.specs.Steps.{heardOf, endedOf, quietOf, Stepped, stepped};
+ghost use Rattle.line.specs.Symbols.{symbolOf};
+ghost use Rattle.line.specs.Rules.{move};
+ghost use Rattle.line.specs.Steps.{heardOf, endedOf, quietOf, acted, Stepped};
 
 // What a byte did: the line afterwards, and what it gave.
 pub struct Reaction {
@@ -70,12 +72,29 @@ fn ended(mode: u8, flaw: bool, heard: Heard) -> Reaction
     }
 }
 
-pub(crate) fn step(line: LineState, content: &mut [u8; 128], byte: u8) -> Reaction
-    ensures { λ r. ⌜ Stepped (stepped line (now (content .entry)) byte) r (now (content .exit)) ⌝ }
+// What a byte does. Almost every row of characters ends with the CR of its group, so that is looked for first.
+fn move_of(phase: Phase, byte: u8) -> Move
+    ensures { λ r. ⌜ r ≡ move phase (symbolOf byte) ⌝ }
 {
-    let mode = line.mode;
-    let length = state::held_in(line);
-    let does = rules::moved(state::phase_of(line), rules::symbol_of(byte));
+    if byte == characters::wire_byte(characters::CR) {
+        if let Phase::Group(flaw, damaged, overlong) = phase {
+            return Move::Judges(flaw, damaged, overlong);
+        }
+    }
+    rules::moved(phase, rules::symbol_of(byte))
+}
+
+// What a byte does to a line of this mode in this phase, whose group holds so many characters.
+pub(crate) fn step(
+    mode: u8,
+    phase: Phase,
+    length: u16,
+    content: &mut [u8; 128],
+    byte: u8,
+) -> Reaction
+    ensures { λ r. ⌜ Stepped (acted mode length (now (content .entry)) (move phase (symbolOf byte))) r (now (content .exit)) ⌝ }
+{
+    let does = move_of(phase, byte);
     match does {
         Move::Quiet(phase) => quiet(mode, phase, length),
         Move::Opens(flaw) => quiet(mode, Phase::Group(flaw, false, false), 0),

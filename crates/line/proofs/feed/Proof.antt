@@ -1,9 +1,9 @@
 -- What is left of the bytes decides.
+use borrow.Author.Needs.{needs}
 use Prim.Native.Nat.{_+_, _-_, _≤_}
 use Rattle.line.proofs.Feeding.{as-fed, feed-accepted, feed-on, feed-over, feed-told}
-use Rattle.line.proofs.InRows.{run-most, run-on}
+use Rattle.line.proofs.InRows.{run-most, run-on, stepped-as}
 use Rattle.line.specs.Steps.{fed}
-use borrow.Author.Needs.{needs}
 use lib.ListN.{drop, length}
 use mathlib.Core.Path.{_∙_, _≡_, refl}
 use native.Mathlib.Omega.{arith}
@@ -11,8 +11,7 @@ use Rattle.line.proofs.feed.Statement.{statement}
 use Rattle.line.proofs.feed.Tie as tie
 
 abbrev Inv-loop : tie.InvT-loop
-Inv-loop content₀ bytes at₀ i₀ content at i =
-    (i ≤ length bytes) × (fed 0 at₀ content₀ bytes ≡ fed i at content (drop i bytes))
+Inv-loop content₀ bytes at₀ i₀ content at i = (i ≤ length bytes) × (fed 0 at₀ content₀ bytes ≡ fed i at content (drop i bytes))
 
 abbrev μ-loop : tie.MeasureT-loop
 μ-loop content₀ bytes at₀ i₀ content at i = length bytes - i
@@ -43,104 +42,100 @@ take-row-requires : tie.Need-take-row-requires Inv-loop μ-loop
 take-row-requires c κs = search needs
 
 add-i : tie.Need-add-i Inv-loop μ-loop
-add-i c =
-    let m = most (c .before) in
-    omega arith
+add-i c = omega (arith, most (c .before))
 
-shared-slice-read-step : tie.Need-shared-slice-read-step Inv-loop μ-loop
-shared-slice-read-step c =
-    let m = most (c .before .before .before .before .before) in
-    omega arith
-
-step-requires : tie.Need-step-requires Inv-loop μ-loop
-step-requires c κs = search needs
-
-add-i-2 : tie.Need-add-i-2 Inv-loop μ-loop
-add-i-2 c =
-    let at-take-row = c .before .before .before .before .before .before .before in
-    let at-loop = at-take-row .before .before .before .before in
-    let start = at-loop .before .before in
-    let m = most at-take-row in
-    omega arith
-
-enum-told : tie.Need-enum-told Inv-loop μ-loop
-enum-told c = search needs
-
-loop-less : tie.Need-loop-less Inv-loop μ-loop
-loop-less c =
-    let m = most (c .before .before .before .before .before .before .before .before .before) in
-    omega arith
-
-loop-again : tie.Need-loop-again Inv-loop μ-loop
-loop-again c =
-    let at-take-row = c .before .before .before .before .before .before .before .before .before in
-    let at-loop-test = at-take-row .before .before .before in
-    let at-loop = at-loop-test .before in
-    let start = at-loop .before .before in
-    let l = at-loop .loop in
-    let m = most at-take-row in
-    let at-step = c .before .before .before in (
-      omega arith,
-      l .inv .1
-          ∙ run-on (l .at) (l .content) (start .args .bytes .now) (l .i) (at-loop-test .loop-test .taken) _ _
-          (at-take-row .take-row .ensures)
-          ∙ feed-on (at-take-row .take-row .result .line) _ (start .args .bytes .now) _ (omega arith)
-          (at-step .step .result) _ (at-step .step .ensures) (c .enum-told .given .1),
-    )
-
-enum-known-heard : tie.Need-enum-known-heard Inv-loop μ-loop
-enum-known-heard c = search needs
+state-of-requires : tie.Need-state-of-requires Inv-loop μ-loop
+state-of-requires c κs = search needs
 
 returns : tie.Need-returns Inv-loop μ-loop
 returns c =
-    let at-take-row = c .before .before .before .before .before .before .before .before .before .before in
-    let at-loop-test = at-take-row .before .before .before in
-    let at-loop = at-loop-test .before in
-    let start = at-loop .before .before in
-    let l = at-loop .loop in
-    let m = most at-take-row in
-    let at-step = c .before .before .before .before in
-    as-fed _ _ (l .inv .1
-    ∙ run-on (l .at) (l .content) (start .args .bytes .now) (l .i) (at-loop-test .loop-test .taken) _ _
-    (at-take-row .take-row .ensures)
-    ∙ feed-accepted (at-take-row .take-row .result .line) _ (start .args .bytes .now) _ (omega arith)
-    (at-step .step .result) _ (at-step .step .ensures) _ (c .before .heard .given .1))
-
-enum-known-heard-2 : tie.Need-enum-known-heard-2 Inv-loop μ-loop
-enum-known-heard-2 c = search needs
-
-returns-2 : tie.Need-returns-2 Inv-loop μ-loop
-returns-2 c =
-    let at-take-row = c .before .before .before .before .before .before .before .before .before .before in
-    let at-loop-test = at-take-row .before .before .before in
-    let at-loop = at-loop-test .before in
-    let start = at-loop .before .before in
-    let l = at-loop .loop in
-    let m = most at-take-row in
-    let at-step = c .before .before .before .before in
-    as-fed _ _ (l .inv .1
-    ∙ run-on (l .at) (l .content) (start .args .bytes .now) (l .i) (at-loop-test .loop-test .taken) _ _
-    (at-take-row .take-row .ensures)
-    ∙ feed-told (at-take-row .take-row .result .line) _ (start .args .bytes .now) _ (omega arith)
-    (at-step .step .result) _ (at-step .step .ensures) _ (c .before .heard2 .given .1))
-
-returns-3 : tie.Need-returns-3 Inv-loop μ-loop
-returns-3 c =
-    let start = c .before .before .before in
-    let l = c .before .loop in
-    as-fed _ _ (l .inv .1 ∙ feed-over (l .at) (l .content) (start .args .bytes .now) (l .i) (omega arith))
-
-returns-4 : tie.Need-returns-4 Inv-loop μ-loop
-returns-4 c =
     let at-take-row = c .before .before .before in
     let at-loop-test = at-take-row .before .before .before in
     let at-loop = at-loop-test .before in
     let start = at-loop .before .before in
     let l = at-loop .loop in
+    rw (c .state-of .ensures) (as-fed _ _ (l .inv .1
+    ∙ run-on (l .at) (l .content) (start .args .bytes .now) (l .i) (at-loop-test .loop-test .taken) _ _
+    (at-take-row .take-row .ensures)
+    ∙ feed-over _ _ (start .args .bytes .now) _ (omega arith)))
+
+shared-slice-read-step : tie.Need-shared-slice-read-step Inv-loop μ-loop
+shared-slice-read-step c = omega (arith, most (c .before .before .before .before))
+
+step-requires : tie.Need-step-requires Inv-loop μ-loop
+step-requires c κs = search needs
+
+add-i-2 : tie.Need-add-i-2 Inv-loop μ-loop
+add-i-2 c = omega (arith, most (c .before .before .before .before .before .before))
+
+enum-told : tie.Need-enum-told Inv-loop μ-loop
+enum-told c = search needs
+
+loop-less : tie.Need-loop-less Inv-loop μ-loop
+loop-less c = omega (arith, most (c .before .before .before .before .before .before .before .before))
+
+loop-again : tie.Need-loop-again Inv-loop μ-loop
+loop-again c =
+    let at-step = c .before .before .before in
+    let at-take-row = at-step .before .before .before .before .before in
+    let at-loop-test = at-take-row .before .before .before in
+    let at-loop = at-loop-test .before in
+    let start = at-loop .before .before in
+    let l = at-loop .loop in
+    let m = most at-take-row in (
+      omega arith,
+      l .inv .1
+          ∙ run-on (l .at) (l .content) (start .args .bytes .now) (l .i) (at-loop-test .loop-test .taken) _ _
+          (at-take-row .take-row .ensures)
+          ∙ feed-on _ _ (start .args .bytes .now) _ (omega arith) (at-step .step .result) _
+          (stepped-as (l .at .mode) (at-take-row .take-row .result .phase) (at-take-row .take-row .result .held) _ _
+          (at-take-row .take-row .ensures .held-most) (at-step .step .ensures)) (c .enum-told .given .1),
+    )
+
+enum-known-heard : tie.Need-enum-known-heard Inv-loop μ-loop
+enum-known-heard c = search needs
+
+returns-2 : tie.Need-returns-2 Inv-loop μ-loop
+returns-2 c =
+    let at-step = c .before .before .before .before in
+    let at-take-row = at-step .before .before .before .before .before in
+    let at-loop-test = at-take-row .before .before .before in
+    let at-loop = at-loop-test .before in
+    let start = at-loop .before .before in
+    let l = at-loop .loop in
+    let m = most at-take-row in
     as-fed _ _ (l .inv .1
     ∙ run-on (l .at) (l .content) (start .args .bytes .now) (l .i) (at-loop-test .loop-test .taken) _ _
     (at-take-row .take-row .ensures)
-    ∙ feed-over _ _ (start .args .bytes .now) _ (omega arith))
+    ∙ feed-accepted _ _ (start .args .bytes .now) _ (omega arith) (at-step .step .result) _
+    (stepped-as (l .at .mode) (at-take-row .take-row .result .phase) (at-take-row .take-row .result .held) _ _
+    (at-take-row .take-row .ensures .held-most) (at-step .step .ensures)) _ (c .before .heard .given .1))
+
+enum-known-heard-2 : tie.Need-enum-known-heard-2 Inv-loop μ-loop
+enum-known-heard-2 c = search needs
+
+returns-3 : tie.Need-returns-3 Inv-loop μ-loop
+returns-3 c =
+    let at-step = c .before .before .before .before in
+    let at-take-row = at-step .before .before .before .before .before in
+    let at-loop-test = at-take-row .before .before .before in
+    let at-loop = at-loop-test .before in
+    let start = at-loop .before .before in
+    let l = at-loop .loop in
+    let m = most at-take-row in
+    as-fed _ _ (l .inv .1
+    ∙ run-on (l .at) (l .content) (start .args .bytes .now) (l .i) (at-loop-test .loop-test .taken) _ _
+    (at-take-row .take-row .ensures)
+    ∙ feed-told _ _ (start .args .bytes .now) _ (omega arith) (at-step .step .result) _
+    (stepped-as (l .at .mode) (at-take-row .take-row .result .phase) (at-take-row .take-row .result .held) _ _
+    (at-take-row .take-row .ensures .held-most) (at-step .step .ensures)) _ (c .before .heard2 .given .1))
+
+returns-4 : tie.Need-returns-4 Inv-loop μ-loop
+returns-4 c =
+    let at-loop = c .before in
+    let start = at-loop .before .before in
+    let l = at-loop .loop in
+    as-fed _ _ (l .inv .1 ∙ feed-over (l .at) (l .content) (start .args .bytes .now) (l .i) (omega arith))
 
 pub feed-spec : {M : Type 1} → statement M
 feed-spec =
@@ -154,6 +149,8 @@ feed-spec =
     part-take-row-end
     take-row-requires
     add-i
+    state-of-requires
+    returns
     shared-slice-read-step
     step-requires
     add-i-2
@@ -161,8 +158,7 @@ feed-spec =
     loop-less
     loop-again
     enum-known-heard
-    returns
-    enum-known-heard-2
     returns-2
+    enum-known-heard-2
     returns-3
     returns-4)

@@ -55,7 +55,7 @@ lf-symbol : symbolOf (wireByteOf LF) ≡ Lf
 unfolding soundSymbol pick
 lf-symbol = wire-symbol LF (omega arith)
 
-cr-symbol : symbolOf (wireByteOf CR) ≡ Cr
+pub cr-symbol : symbolOf (wireByteOf CR) ≡ Cr
 unfolding soundSymbol pick
 cr-symbol = wire-symbol CR (omega arith)
 

@@ -2,11 +2,12 @@
 use Prim.Native.Nat.{_+_, ℕ}
 use Rattle.groups.proofs.Walks.{front-summed, to-end}
 use Rattle.groups.specs.Conditions.{firstAt}
+use Rattle.groups.specs.Inside.{ContentWalk}
 use Rattle.groups.specs.Judging.{shown}
 use Rattle.groups.specs.Laws.Places.{read-cut, read-long, read-uncut, read-unlabelled}
 use borrow.Author.Needs.{needs}
 use lib.ListN.{length-take}
-use mathlib.Core.Path.{_∙_, ap, sym}
+use mathlib.Core.Path.{_∙_, ap, subst, sym}
 use native.Mathlib.Omega.{arith}
 use Rattle.groups.proofs.reading.read.Statement.{statement}
 use Rattle.groups.proofs.reading.read.Tie as tie
@@ -23,8 +24,8 @@ returns c =
 separator-of-requires : tie.Need-separator-of-requires
 separator-of-requires c κs = search needs
 
-first-requires : tie.Need-first-requires
-first-requires c κs = search needs
+walk-requires : tie.Need-walk-requires
+walk-requires c κs = omega arith
 
 refuse-requires-2 : tie.Need-refuse-requires-2
 refuse-requires-2 c κs = search needs
@@ -35,7 +36,7 @@ returns-2 c =
     let at-if1 = at-separator-of .before in
     let start = at-if1 .before .before in
     let g = start .args in
-    c .refuse2 .ensures ∙ ap shown (sym (read-uncut (g .mode) (g .content .now) _ (c .before .before .first .ensures ∙
+    c .refuse2 .ensures ∙ ap shown (sym (read-uncut (g .mode) (g .content .now) _ (c .before .before .walk .ensures .first-is ∙
     ap (λ (s : ℕ). firstAt s (g .content .now)) (at-separator-of .separator-of .ensures)) (at-if1 .if1 .left)
     (c .before .if2 .taken)))
 
@@ -44,12 +45,12 @@ refuse-requires-3 c κs = search needs
 
 returns-3 : tie.Need-returns-3
 returns-3 c =
-    let at-first = c .before .before .before in
-    let at-separator-of = at-first .before in
+    let at-walk = c .before .before .before in
+    let at-separator-of = at-walk .before in
     let at-if1 = at-separator-of .before in
     let start = at-if1 .before .before in
     let g = start .args in
-    c .refuse3 .ensures ∙ ap shown (sym (read-unlabelled (g .mode) (g .content .now) _ (at-first .first .ensures ∙ ap
+    c .refuse3 .ensures ∙ ap shown (sym (read-unlabelled (g .mode) (g .content .now) _ (at-walk .walk .ensures .first-is ∙ ap
     (λ (s : ℕ). firstAt s (g .content .now)) (at-separator-of .separator-of .ensures)) (at-if1 .if1 .left)
     (c .before .before .if2 .left) (c .before .if3 .taken)))
 
@@ -68,30 +69,27 @@ part-behind-label-start c = search needs
 part-behind-label-end : tie.Need-part-behind-label-end
 part-behind-label-end c = search needs
 
-front-sum-requires : tie.Need-front-sum-requires
-front-sum-requires c κs = search needs
-
 behind-label-requires : tie.Need-behind-label-requires
 behind-label-requires c κs =
-    let at-first = c .before .before .before .before .before in
-    let at-separator-of = at-first .before in
+    let at-walk = c .before .before .before .before in
+    let at-separator-of = at-walk .before in
     let start = at-separator-of .before .before .before in
     let g = start .args in
-    rw (to-end (at-first .first .result + 1) (g .content .now)) (front-summed (g .mode) (g .content .now) _ _
-    (at-first .first .ensures ∙ ap (λ (s : ℕ). firstAt s (g .content .now)) (at-separator-of .separator-of .ensures))
-    (c .front-sum .ensures))
+    rw (to-end (at-walk .walk .result .first + 1) (g .content .now)) (front-summed (g .mode) (g .content .now) _ _
+    (subst (λ (s : ℕ). ContentWalk s (g .content .now) (at-walk .walk .result .first) (at-walk .walk .result .sum))
+    (at-separator-of .separator-of .ensures) (at-walk .walk .ensures)))
 
 returns-4 : tie.Need-returns-4
 returns-4 c =
-    let at-if3 = c .before .before .before .before in
+    let at-if3 = c .before .before .before in
     let at-if2 = at-if3 .before in
-    let at-first = at-if2 .before in
-    let at-separator-of = at-first .before in
+    let at-walk = at-if2 .before in
+    let at-separator-of = at-walk .before in
     let at-if1 = at-separator-of .before in
     let start = at-if1 .before .before in
     let g = start .args in
-    c .behind-label .ensures ∙ rw (to-end (at-first .first .result + 1) (g .content .now)) (ap shown (sym (read-cut
-    (g .mode) (g .content .now) _ (at-first .first .ensures ∙ ap (λ (s : ℕ). firstAt s (g .content .now))
+    c .behind-label .ensures ∙ rw (to-end (at-walk .walk .result .first + 1) (g .content .now)) (ap shown (sym (read-cut
+    (g .mode) (g .content .now) _ (at-walk .walk .ensures .first-is ∙ ap (λ (s : ℕ). firstAt s (g .content .now))
     (at-separator-of .separator-of .ensures)) (at-if1 .if1 .left) (at-if2 .if2 .left) (at-if3 .if3 .left))))
 
 pub read-spec : {M : Type 1} → statement M
@@ -101,7 +99,7 @@ read-spec =
     refuse-requires
     returns
     separator-of-requires
-    first-requires
+    walk-requires
     refuse-requires-2
     returns-2
     refuse-requires-3
@@ -111,6 +109,5 @@ read-spec =
     sub-behind-label
     part-behind-label-start
     part-behind-label-end
-    front-sum-requires
     behind-label-requires
     returns-4)

@@ -1,81 +1,23 @@
--- Each character joins the content, as it would by itself.
+-- Eight by eight first, and then one by one.
+use Rattle.line.proofs.InRows.{adds-none}
 use borrow.Author.Needs.{needs}
-use Prim.Native.Nat.{_-_, _≤_}
-use mathlib.Core.Path.{_∙_, sym}
-use Rattle.line.specs.Runs.{Adds}
-use Rattle.line.proofs.InRows.{adds-none, adds-one}
-use native.Mathlib.Omega.{arith}
 use Rattle.line.proofs.rows.add_text.Statement.{statement}
 use Rattle.line.proofs.rows.add_text.Tie as tie
 
-abbrev Inv-loop : tie.InvT-loop
-Inv-loop content₀ held bytes end i₀ content i = (i ≤ end) × Adds held content₀ bytes i content
-
-abbrev μ-loop : tie.MeasureT-loop
-μ-loop content₀ held bytes end i₀ content i = end - i
-
-room-for-requires : tie.Need-room-for-requires Inv-loop μ-loop
+room-for-requires : tie.Need-room-for-requires
 room-for-requires c κs = search needs
 
-loop-holds : tie.Need-loop-holds Inv-loop μ-loop
-loop-holds c =
-    let start = c .before .before in
-    (omega arith, adds-none (start .args .held) (start .args .content .now) (start .args .bytes .now) (start .pre))
+add-eights-requires : tie.Need-add-eights-requires
+add-eights-requires c κs = search needs
 
-shared-slice-read-symbol-of : tie.Need-shared-slice-read-symbol-of Inv-loop μ-loop
-shared-slice-read-symbol-of c = search needs
+add-rest-requires : tie.Need-add-rest-requires
+add-rest-requires c κs = search needs
 
-symbol-of-requires : tie.Need-symbol-of-requires Inv-loop μ-loop
-symbol-of-requires c κs = search needs
-
-enum-known-symbol : tie.Need-enum-known-symbol Inv-loop μ-loop
-enum-known-symbol c = search needs
-
-returns : tie.Need-returns Inv-loop μ-loop
-returns c = search needs
-
-add-content : tie.Need-add-content Inv-loop μ-loop
-add-content c = search needs
-
-element-write-content : tie.Need-element-write-content Inv-loop μ-loop
-element-write-content c = search needs
-
-add-i : tie.Need-add-i Inv-loop μ-loop
-add-i c = search needs
-
-loop-less : tie.Need-loop-less Inv-loop μ-loop
-loop-less c = search needs
-
-loop-again : tie.Need-loop-again Inv-loop μ-loop
-loop-again c =
-    let at-symbol-of = c .before .before .before in
-    let at-loop = at-symbol-of .before .before .before in
-    let start = at-loop .before .before .before in
-    let l = at-loop .loop in (
-      omega arith,
-      adds-one (start .args .held) (start .args .content .now) (l .content) (start .args .bytes .now) (l .i) _
-          (l .inv .1) (omega arith) (omega arith)
-          (sym (at-symbol-of .symbol-of .ensures) ∙ c .before .symbol .given .1),
-    )
-
-returns-2 : tie.Need-returns-2 Inv-loop μ-loop
-returns-2 c = search needs
+returns : tie.Need-returns
+returns c =
+    let start = c .before .before .before .before .before .before in
+    c .add-rest .ensures (start .args .content .now) (c .before .before .add-eights .ensures .1 (start .args .content .now)
+    (adds-none (start .args .held) (start .args .content .now) (start .args .bytes .now) (start .pre)))
 
 pub add-text-spec : {M : Type 1} → statement M
-add-text-spec =
-    tie.close
-    (tie.spec
-    Inv-loop
-    μ-loop
-    room-for-requires
-    loop-holds
-    shared-slice-read-symbol-of
-    symbol-of-requires
-    enum-known-symbol
-    returns
-    add-content
-    element-write-content
-    add-i
-    loop-less
-    loop-again
-    returns-2)
+add-text-spec = tie.close (tie.spec room-for-requires add-eights-requires add-rest-requires returns)
