@@ -16,10 +16,11 @@
  * The port: eight data bits, no parity, one stop bit, and raw, so that nothing is translated. The top bit of each byte is
  * the meter's own parity bit, and is delivered with it. A port that is set to seven bits and even parity strips it: STX
  * comes as 0x02 instead of 0x82, no frame ever begins, and there is no answer at all. The speed is 9600 baud in standard
- * mode (document 001, 5.3.5) and 1200 in historic mode (document 003, 1.3.1.1; but a SAPHIR may be set to 9600, and, by
- * 1.4, a PME-PMI to 1200, 2400, 4800, 9600 or 19200). On Linux, `stty -F /dev/ttyUSB0 raw -echo 9600 cs8 -parenb -cstopb`,
- * or with 1200; in the flags of termios: CS8 and CREAD set, and PARENB, CSTOPB, INPCK, ISTRIP, IGNPAR, PARMRK, ICRNL, INLCR,
- * IGNCR, IXON, IXOFF, ICANON, ECHO, ISIG, IEXTEN and OPOST not set.
+ * mode (document 001, 5.3.5) and 1200 in historic mode (document 003, 1.3.1.1; but a SAPHIR may be set to 9600). A
+ * PME-PMI, business mode, is set to 1200, 2400, 4800, 9600 or 19200: to 1200 where nobody chose (document 003, 1.4.1),
+ * mostly to 9600 (2.9.1); whoever listens has to try. On Linux, `stty -F /dev/ttyUSB0 raw -echo 9600 cs8 -parenb -cstopb`,
+ * or with another speed; in the flags of termios: CS8 and CREAD set, and PARENB, CSTOPB, INPCK, ISTRIP, IGNPAR, PARMRK,
+ * ICRNL, INLCR, IGNCR, IXON, IXOFF, ICANON, ECHO, ISIG, IEXTEN and OPOST not set.
  *
  * What the caller owes, since no proof can see to it:
  *  - No pointer is null, not even one to no bytes at all: hand in any address of your own with a length of 0.
@@ -67,8 +68,10 @@ extern "C" {
 #define ESPANDIM_SMALLEST_SHEET 1080 /* bytes of a sheet that can hold every round */
 #define ESPANDIM_MOST_WRITTEN 130    /* bytes, enough for every group: LF, content and CR; the longest, PJOURF+1, has 111 */
 
-#define ESPANDIM_HISTORIC 0
-#define ESPANDIM_STANDARD 1
+/* The modes. Business mode is that of a PME-PMI meter (M-100 of document 02, the customer's later requests). */
+#define ESPANDIM_HISTORIC 0 /* 34 labels */
+#define ESPANDIM_STANDARD 1 /* 71 labels, of which 24 are stamped */
+#define ESPANDIM_BUSINESS 2 /* 75 labels, none of them stamped: dates are data */
 
 /* Document 01's numbers. 0 and 15 to 19 are those of calls; 1 to 14 those of a group or of an entry on a sheet. */
 enum espandim_number {
@@ -116,8 +119,8 @@ static inline const char *espandim_words(uint32_t number) {
         "line number 8 or more",
         "delivery to a closed line",
         "sheet under 1,080 bytes",
-        "mode not 0 or 1",
-        "capture empty or not begun by H or S",
+        "mode not 0 to 2",
+        "capture empty or not begun by H, S or P",
         "not a number of the table",
     };
     return words[number <= 20 ? number : 21];
@@ -152,7 +155,7 @@ uint32_t espandim_rows_round(uint8_t *marks, uint16_t *places, uint8_t *contents
  * open a line once: an opening before each delivery would drop what waits, and the frame that has begun.
  *   0   opened
  *   16  line is 8 or more
- *   19  mode is neither 0 (historic) nor 1 (standard)
+ *   19  mode is not 0 (historic), 1 (standard) or 2 (business)
  * The first that holds is given; 16 and 19 change nothing. */
 static inline uint32_t espandim_open(struct espandim_station *station, uint32_t line, uint32_t mode) {
     return espandim_rows_open(station->marks[0], station->places[0], station->contents[0], station->inboxes[0], line, mode);
@@ -187,7 +190,7 @@ static inline uint32_t espandim_deliver(struct espandim_station *station, uint32
  * on a line its turn takes at least one, so all 256 that can wait are taken within 256 rounds, and the 257th at the latest
  * takes nothing. More closely: n bytes that complete k answers are taken within n/64, rounded up, plus k rounds
  * (`taken-in-time` in crates/station/specs/Demands.antt). With rounds by the clock instead, as many are needed as bytes can
- * come on one line: 960 a second at 9600 baud, 120 at 1200. */
+ * come on one line: 1,920 a second at 19200 baud, 960 at 9600, 120 at 1200. */
 static inline uint32_t espandim_round(struct espandim_station *station, uint8_t *sheet, size_t length,
                                       uint8_t counts[ESPANDIM_LINES]) {
     return espandim_rows_round(station->marks[0], station->places[0], station->contents[0], station->inboxes[0], sheet,
@@ -211,7 +214,8 @@ static inline int espandim_idle(const uint8_t counts[ESPANDIM_LINES]) {
  *
  * A stamp is 13 characters, as they came: its season, then YYMMDDhhmmss. The season is H in winter and E in summer; h and e
  * are the same from a clock in degraded mode, which lost its time and was not set again yet, so that date and hour may be
- * anything. For DPM1 to DPM3 and FPM1 to FPM3 it is a space. */
+ * anything. For DPM1 to DPM3 and FPM1 to FPM3 it is a space. In business mode there is no stamp: a date there is data,
+ * DD/MM/YY hh:mm:ss, and so is each space inside the data and at their ends. */
 static inline const uint8_t *espandim_entry(const uint8_t *sheet, uint32_t line) {
     uint32_t offset = line < ESPANDIM_LINES ? sheet[8 + 2 * line] + 256u * sheet[9 + 2 * line] : 0;
     return offset == 0 ? 0 : sheet + offset;
@@ -220,25 +224,25 @@ static inline const uint8_t *espandim_entry(const uint8_t *sheet, uint32_t line)
 /* Judges the content of one group, what stands between LF and CR, in characters with no parity bit. The stretches are
  * set to start and length of label, stamp and data, in the content itself; a label without a stamp has an empty one.
  *   1   accepted
- *   19  mode is neither 0 nor 1
+ *   19  mode is not 0 to 2
  *   8   over 128 characters
  *   9   under 4 characters, or the separators not where they must be
  *   10  check character wrong
  *   11  label not in the mode's list
- *   12  stamp not right (a small season letter, h or e, is right where H and E are)
- *   13  data not of the label's width
- *   14  a character of the data not of the label's kind
+ *   12  stamp not right (a small season letter, h or e, is right where H and E are); never in business mode
+ *   13  data not of the label's width; in business mode, shorter than the label's smallest or longer than its largest
+ *   14  a character of the data not of the label's kind; in business mode, any other data that do not fit the label's fields
  * The first that holds is given; all but 1 leave six zeros in the stretches. */
 uint32_t espandim_judge(uint32_t mode, const uint8_t *content, size_t length, size_t stretches[6]);
 
 /* Writes LF, the content of the group with these fields, and CR, as sound wire bytes, at the start of the buffer, and
  * sets *written to how many bytes these are. The rest of the buffer stays as it was.
  *   0   written
- *   19  mode is neither 0 nor 1
+ *   19  mode is not 0 to 2
  *   11  label not in the mode's list
- *   12  stamp not right, missing, or given to a label that has none
- *   13  data not of the label's width
- *   14  a character of the data not of the label's kind
+ *   12  stamp not right, missing, or given to a label that has none, as none in business mode has
+ *   13  data not of the label's width; business mode: as in judging
+ *   14  a character of the data not of the label's kind; business mode: as in judging
  *   15  the buffer has no room for all of it
  * The first that holds is given; all but 0 leave the buffer as it was and 0 in *written. */
 uint32_t espandim_write(uint32_t mode, const uint8_t *label, size_t label_length, const uint8_t *stamp, size_t stamp_length,

@@ -99,7 +99,7 @@ pub fn run<S: Station, W: Witness>(mode: Mode, wire: &[u8], lines: usize, witnes
             then,
             waiting: 0,
         };
-        witness.see_answer(station.open(line as u32, u32::from(mode == Mode::Standard)));
+        witness.see_answer(station.open(line as u32, mode.number()));
     }
     loop {
         for (line, source) in sources.iter_mut().enumerate() {

@@ -16,7 +16,8 @@ use plain::table::Mode;
 use std::io::{self, Read, Write};
 use std::process::ExitCode;
 
-const USAGE: &str = "usage: bench make standard|historic|noisy BYTES   writes a capture
+const USAGE: &str = "usage: bench make KIND BYTES                       writes a capture; KIND: standard, historic, business,
+                                                   noisy or noisy-business
        bench listing                               plain reader: lists the capture on standard input
        bench tally                                 plain reader: counts its answers
        bench station ours|plain LINES [check]      feeds it to so many lines; check: one number for all answers

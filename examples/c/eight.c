@@ -2,9 +2,9 @@
  *
  * usage: eight FILE.. (the first is line 0, the second line 1, and so on)
  *
- * A capture is H (historic) or S (standard), then wire bytes. Each answer is a line of output: the number of the line,
- * the number of the answer and, where that is 1, label, stamp or `-`, and data, each after a space. A capture that is
- * empty, or begins otherwise, has the answer 20. Exit status 0; 1 where a file can't be read; 2 for bad usage.
+ * A capture is H (historic), S (standard) or P (business), then wire bytes. Each answer is a line of output: the number
+ * of the line, the number of the answer and, where that is 1, label, stamp or `-`, and data, each after a space. A capture
+ * that is empty, or begins otherwise, has the answer 20. Exit status 0; 1 where a file can't be read; 2 for bad usage.
  *
  * It needs no header but espandim.h: what it uses of the C library is declared here, for a compiler that has none. */
 #include "espandim.h"
@@ -14,6 +14,8 @@ extern long read(int file, void *bytes, size_t room);
 extern long write(int file, const void *bytes, size_t length);
 
 static const char usage[] = "usage: eight FILE.. (one to eight captures)\n";
+
+#define NO_MODE 4294967295u
 
 /* One source: its file, and the bytes that were read of it and are not delivered yet. */
 struct source {
@@ -67,6 +69,20 @@ static void show_entry(uint32_t line, const uint8_t *entry) {
     show("\n", 1);
 }
 
+/* The mode that the first byte of a capture names; one that is none for any other byte. */
+static uint32_t mode_of(uint8_t letter) {
+    switch (letter) {
+    case 'H':
+        return ESPANDIM_HISTORIC;
+    case 'S':
+        return ESPANDIM_STANDARD;
+    case 'P':
+        return ESPANDIM_BUSINESS;
+    default:
+        return NO_MODE;
+    }
+}
+
 /* Opens the line of a capture by its first byte. */
 static int begin(struct espandim_station *station, uint32_t line, struct source *source, const char *path) {
     uint8_t first;
@@ -75,8 +91,8 @@ static int begin(struct espandim_station *station, uint32_t line, struct source 
     if (source->file < 0) {
         return 0;
     }
-    if (read(source->file, &first, 1) == 1 && (first == 'H' || first == 'S')) {
-        return espandim_open(station, line, first == 'H' ? ESPANDIM_HISTORIC : ESPANDIM_STANDARD) == ESPANDIM_DONE;
+    if (read(source->file, &first, 1) == 1 && mode_of(first) != NO_MODE) {
+        return espandim_open(station, line, mode_of(first)) == ESPANDIM_DONE;
     }
     source->file = -1;
     show_number(line);

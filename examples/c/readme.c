@@ -89,10 +89,10 @@ static int load(struct capture *capture, const char *path) {
     int file = open(path, 0);
     uint8_t letter = 0;
     long got;
-    if (file < 0 || read(file, &letter, 1) != 1 || (letter != 'H' && letter != 'S')) {
+    if (file < 0 || read(file, &letter, 1) != 1 || (letter != 'H' && letter != 'S' && letter != 'P')) {
         return 0;
     }
-    capture->mode = letter == 'H' ? ESPANDIM_HISTORIC : ESPANDIM_STANDARD;
+    capture->mode = letter == 'H' ? ESPANDIM_HISTORIC : letter == 'S' ? ESPANDIM_STANDARD : ESPANDIM_BUSINESS;
     capture->count = capture->heard = 0;
     while ((got = read(file, capture->bytes + capture->count, sizeof capture->bytes - capture->count)) > 0) {
         capture->count += (size_t)got;

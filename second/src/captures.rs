@@ -1,7 +1,7 @@
 //! Made-up traffic of a line, and captures of it.
 
 use crate::drafts::{Generator, Spoiling, EDGE_SIZES};
-use crate::table::Mode;
+use crate::table::{all_rules, Mode};
 use crate::wire::{
     all_to_wire, to_wire, CARRIAGE_RETURN, END_OF_TEXT, END_OF_TRANSMISSION, LINE_FEED, SPACE,
     START_OF_TEXT,
@@ -35,28 +35,24 @@ pub fn group_on_wire(content: &[u8]) -> Vec<u8> {
 }
 
 impl Generator {
-    /// A whole capture: "`H` or `S`, then wire bytes of one line", or a bad
-    /// one.
+    /// A whole capture: "`H` or `S`, then wire bytes of one line", or `P`
+    /// (document 02, M-100), or a bad one.
     pub fn capture(&mut self) -> Vec<u8> {
         let mode = self.mode();
-        let first = match mode {
-            Mode::Historic => b'H',
-            Mode::Standard => b'S',
-        };
         let mut capture = match self.dice.below(100) {
             0 => {
                 self.note("capture: empty");
                 return Vec::new();
             }
             1 | 2 => {
-                self.note("capture: first byte near to H or S");
-                vec![*self.dice.pick(b"hsPGT\xC8\xC8\xD3\xD3 \x02\x82\n")]
+                self.note("capture: first byte near to H, S or P");
+                vec![*self.dice.pick(b"hspGITOQR02\xC8\xD0\xD3 \x02\x82\n")]
             }
             3 => {
                 self.note("capture: any first byte");
                 vec![self.dice.byte()]
             }
-            _ => vec![first],
+            _ => vec![mode.letter()],
         };
         match self.dice.below(500) {
             0..=124 => {
@@ -95,8 +91,10 @@ impl Generator {
         let mut wire = Vec::new();
         while wire.len() < least {
             let piece = match self.dice.below(100) {
-                0..=7 if mode == Mode::Standard => self.degraded_frame(),
-                0..=71 => self.frame(mode),
+                0..=11 => self.own_frame(mode),
+                // The business meter's data have the most ways of being wrong.
+                12..=35 if mode == Mode::Business => self.own_frame(mode),
+                12..=71 => self.frame(mode),
                 72..=79 => self.noise(),
                 80..=87 => self.soup(mode),
                 _ => self.frame_with_sized_group(mode),
@@ -154,8 +152,17 @@ impl Generator {
         wire
     }
 
+    /// A frame of what only this mode's meters send.
+    pub fn own_frame(&mut self, mode: Mode) -> Vec<u8> {
+        match mode {
+            Mode::Historic => self.frame(mode),
+            Mode::Standard => self.degraded_frame(),
+            Mode::Business => self.business_frame(),
+        }
+    }
+
     /// A frame of standard mode in which every season is small.
-    pub fn degraded_frame(&mut self) -> Vec<u8> {
+    fn degraded_frame(&mut self) -> Vec<u8> {
         let mut wire = vec![to_wire(START_OF_TEXT)];
         for _ in 0..self.dice.between(1, 2) {
             wire.extend(group_on_wire(&self.degraded_draft().content()));
@@ -164,11 +171,37 @@ impl Generator {
         wire
     }
 
+    /// A frame of the business meter: labels in the order of Tableau 10, from
+    /// any of them on and the first behind the last, of which some are not sent.
+    /// In most frames some data nearly fit; the others are right.
+    fn business_frame(&mut self) -> Vec<u8> {
+        self.note("frame of the business meter");
+        let rules = all_rules(Mode::Business);
+        let first = self.dice.below(rules.len());
+        let count = self.dice.between(1, 8);
+        let near_misses = self.dice.percent(70);
+        let mut wire = vec![to_wire(START_OF_TEXT)];
+        for rule in rules.iter().cycle().skip(first).take(count) {
+            if self.dice.percent(20) {
+                continue;
+            }
+            let mut draft = self.right_draft_of(Mode::Business, &[rule]);
+            match self.dice.below(4) {
+                0 if near_misses => draft.data = self.data_just_beyond(rule),
+                1 | 2 if near_misses => self.spoil(&mut draft, Spoiling::Kind),
+                _ => {}
+            }
+            wire.extend(group_on_wire(&draft.content()));
+        }
+        wire.push(to_wire(END_OF_TEXT));
+        wire
+    }
+
     /// One group on the wire.
     fn group(&mut self, mode: Mode, spoilt: bool) -> Vec<u8> {
         let mode = if spoilt && self.dice.percent(10) {
-            self.note("group of the other mode");
-            mode.other()
+            self.note("group of another mode");
+            self.other_mode(mode)
         } else {
             mode
         };

@@ -1,8 +1,9 @@
 //! Made-up groups: right ones, and ones with a field spoilt.
 
 use crate::dice::Dice;
-use crate::group::{check_character, days_in_month};
-use crate::table::{all_rules, stamped_rules, Kind, Mode, Rule, Season, SMALL_SEASONS};
+use crate::formats::{Field, Format, Kind};
+use crate::group::{check_character, days_in_month, summed_part};
+use crate::table::{all_rules, stamped_rules, Mode, Rule, Season, MODES, SMALL_SEASONS};
 use crate::wire::{HORIZONTAL_TAB, SPACE};
 use std::collections::BTreeMap;
 
@@ -16,14 +17,16 @@ pub const EDGE_SIZES: [usize; 21] = [
 pub struct Generator {
     pub dice: Dice,
     pub deeds: BTreeMap<&'static str, u64>,
+    /// Which label and alternative a mode begins with where they take turns.
+    pub first_turn: usize,
 }
 
 /// How the check character of a draft is chosen.
 #[derive(Clone, Copy, Debug, PartialEq, Eq)]
 pub enum CheckChoice {
     Right,
-    /// By the sum rule of the other mode ("One sum rule for both modes").
-    RuleOfOtherMode,
+    /// By the sum rule that is not the mode's ("One sum rule for both modes").
+    OtherSum,
     /// The right one moved by this much.
     Moved(u8),
     Fixed(u8),
@@ -57,18 +60,20 @@ impl Draft {
         ]
         .concat();
         let through_separator = [&body[..], &self.final_separator[..]].concat();
-        let by_mode = |mode: Mode| {
-            check_character(match mode {
-                Mode::Historic => &body,
-                Mode::Standard => &through_separator,
+        let final_counts = self.mode.sums_final_separator();
+        let check_by = |final_counts: bool| {
+            check_character(if final_counts {
+                &through_separator
+            } else {
+                &body
             })
         };
         let mut content = through_separator.clone();
         match self.check {
-            CheckChoice::Right => content.push(by_mode(self.mode)),
-            CheckChoice::RuleOfOtherMode => content.push(by_mode(self.mode.other())),
+            CheckChoice::Right => content.push(check_by(final_counts)),
+            CheckChoice::OtherSum => content.push(check_by(!final_counts)),
             CheckChoice::Moved(distance) => {
-                content.push(by_mode(self.mode).wrapping_add(distance));
+                content.push(check_by(final_counts).wrapping_add(distance));
             }
             CheckChoice::Fixed(character) => content.push(character),
             CheckChoice::LeftOut => {}
@@ -95,6 +100,7 @@ impl Generator {
         Generator {
             dice,
             deeds: BTreeMap::new(),
+            first_turn: 0,
         }
     }
 
@@ -103,19 +109,27 @@ impl Generator {
         *self.deeds.entry(deed).or_insert(0) += 1;
     }
 
-    /// One of the modes; standard mode more often, for it has twice as many
-    /// labels and all the stamps.
+    /// One of the modes; standard mode and the business meter more often, for
+    /// each has twice as many labels, one all the stamps and the other all the
+    /// alternatives.
     pub fn mode(&mut self) -> Mode {
-        if self.dice.percent(35) {
-            Mode::Historic
-        } else {
-            Mode::Standard
+        match self.dice.below(100) {
+            0..=15 => Mode::Historic,
+            16..=61 => Mode::Standard,
+            _ => Mode::Business,
         }
+    }
+
+    /// One of the modes that this one is not.
+    pub fn other_mode(&mut self, mode: Mode) -> Mode {
+        let others: Vec<Mode> = MODES.into_iter().filter(|one| *one != mode).collect();
+        *self.dice.pick(&others)
     }
 
     /// A right group of any label of the mode.
     pub fn right_draft(&mut self, mode: Mode) -> Draft {
-        self.right_draft_of(mode, &all_rules(mode))
+        let rules: Vec<&'static Rule> = all_rules(mode).iter().collect();
+        self.right_draft_of(mode, &rules)
     }
 
     /// A group with a small season, as from "a clock in degraded mode", of any
@@ -130,18 +144,21 @@ impl Generator {
     /// A right group of a label on which the spoiling can show: stamped ones
     /// for the stamp (DATE often, for it has nothing after the stamp) and for
     /// the season (often DPM and FPM, for which all four letters are wrong),
-    /// the one hexadecimal label now and then for the kind.
+    /// for the kind now and then the one hexadecimal label and the one whose
+    /// lengths have a gap.
     fn right_draft_for(&mut self, mode: Mode, spoiling: Spoiling) -> Draft {
         let with_dates_only = self.dice.percent(25);
         let with_space_only = self.dice.percent(50);
-        let with_hexadecimal_only = self.dice.percent(15);
+        let with_rarities_only = self.dice.percent(15);
         let suited: Vec<&'static Rule> = all_rules(mode)
-            .into_iter()
+            .iter()
             .filter(|rule| match spoiling {
-                Spoiling::Stamp if with_dates_only => rule.stamp.is_some() && rule.width == 0,
+                Spoiling::Stamp if with_dates_only => rule.stamp.is_some() && rule.longest == 0,
                 Spoiling::Season if with_space_only => rule.stamp == Some(Season::SpaceOnly),
                 Spoiling::Stamp | Spoiling::Season => rule.stamp.is_some(),
-                Spoiling::Kind if with_hexadecimal_only => rule.kind == Kind::Hexadecimal,
+                Spoiling::Kind if with_rarities_only => {
+                    only_kind_of(rule) == Some(Kind::Hexadecimal) || rule.has_gap()
+                }
                 _ => true,
             })
             .collect();
@@ -152,8 +169,25 @@ impl Generator {
         }
     }
 
-    fn right_draft_of(&mut self, mode: Mode, rules: &[&'static Rule]) -> Draft {
-        let rule = *self.dice.pick(rules);
+    /// A right group of the label and alternative whose turn it is. They take
+    /// turns for each deed, so that all come about equally often.
+    pub fn right_draft_in_turn(&mut self, mode: Mode, deed: &'static str) -> Draft {
+        self.note(deed);
+        let rules: Vec<&'static Rule> = all_rules(mode).iter().collect();
+        let choices = labels_and_alternatives(&rules);
+        let turn = self.first_turn + self.deeds[deed] as usize;
+        let (rule, fields) = choices[turn % choices.len()];
+        self.right_draft_with(mode, rule, fields)
+    }
+
+    /// A right group of one of these labels, those with several alternatives
+    /// as much more often.
+    pub fn right_draft_of(&mut self, mode: Mode, rules: &[&'static Rule]) -> Draft {
+        let (rule, fields) = *self.dice.pick(&labels_and_alternatives(rules));
+        self.right_draft_with(mode, rule, fields)
+    }
+
+    fn right_draft_with(&mut self, mode: Mode, rule: &'static Rule, fields: &[Field]) -> Draft {
         let stamp = match rule.stamp {
             None => Vec::new(),
             Some(season) => self.right_stamp(season),
@@ -169,7 +203,7 @@ impl Generator {
             first_separator: vec![mode.separator()],
             stamp,
             stamp_separator,
-            data: self.data_of(rule.kind, rule.width),
+            data: self.data_of_fields(fields),
             final_separator: vec![mode.separator()],
             check: CheckChoice::Right,
         }
@@ -249,7 +283,12 @@ impl Generator {
     /// A right draft with one field spoilt, now and then a second one too, so
     /// that the order of the refusals is tried.
     pub fn spoilt_draft(&mut self, mode: Mode, choices: &[Spoiling]) -> Draft {
-        let first = *self.dice.pick(choices);
+        // The business meter has no stamps, and the most ways of wrong data.
+        let first = match self.dice.below(100) {
+            0..=14 if mode == Mode::Business => Spoiling::Width,
+            15..=59 if mode == Mode::Business => Spoiling::Kind,
+            _ => *self.dice.pick(choices),
+        };
         let mut draft = self.right_draft_for(mode, first);
         self.spoil(&mut draft, first);
         if self.dice.percent(25) {
@@ -262,7 +301,7 @@ impl Generator {
     fn spoil_label(&mut self, draft: &mut Draft) {
         self.note("spoilt: label");
         let place = self.dice.below(draft.label.len().max(1));
-        match self.dice.below(9) {
+        match self.dice.below(12) {
             0 => draft.label.clear(),
             1 => {
                 draft.label.pop();
@@ -273,13 +312,13 @@ impl Generator {
             }
             3 => draft.label = draft.label.to_ascii_lowercase(),
             4 => {
-                let rules = all_rules(draft.mode.other());
-                draft.label = self.dice.pick(&rules).label.clone().into_bytes();
+                let rules = all_rules(self.other_mode(draft.mode));
+                draft.label = self.dice.pick(rules).label.clone().into_bytes();
             }
             5 => {
                 // A label of the same mode that has another rule, perhaps.
                 let rules = all_rules(draft.mode);
-                draft.label = self.dice.pick(&rules).label.clone().into_bytes();
+                draft.label = self.dice.pick(rules).label.clone().into_bytes();
             }
             6 if !draft.label.is_empty() => {
                 draft.label[place] = draft.label[place].wrapping_add(1) & 0x7F;
@@ -288,6 +327,7 @@ impl Generator {
                 let inserted = *self.dice.pick(&[SPACE, HORIZONTAL_TAB, 0x00, 0x7F]);
                 draft.label.insert(place, inserted);
             }
+            8..=10 => self.spoil_spelling(draft),
             _ if !draft.label.is_empty() => {
                 draft.label[place] = self.dice.between(0x21, 0x7E) as u8;
             }
@@ -297,7 +337,7 @@ impl Generator {
 
     fn spoil_separator(&mut self, draft: &mut Draft) {
         self.note("spoilt: separator");
-        let other = draft.mode.other().separator();
+        let other = draft.mode.wrong_separator();
         let own = draft.mode.separator();
         let changed = match self.dice.below(5) {
             0 => Vec::new(),
@@ -400,13 +440,13 @@ impl Generator {
 
     fn spoil_width(&mut self, draft: &mut Draft) {
         self.note("spoilt: width");
-        match self.dice.below(6) {
+        match self.dice.below(12) {
             0 => {
                 draft.data.pop();
             }
             1 => draft.data.clear(),
             2 | 3 => {
-                let added = self.data_of(draft.rule.kind, 1);
+                let added = self.filling(draft.rule, 1);
                 draft.data.extend(added);
             }
             4 => {
@@ -414,13 +454,24 @@ impl Generator {
                 let others = draft.content().len() - draft.data.len();
                 let whole = self.dice.between(126, 131);
                 let length = whole.saturating_sub(others);
-                draft.data = self.data_of(draft.rule.kind, length);
+                draft.data = self.filling(draft.rule, length);
             }
-            _ => {
+            5 => {
                 let length = *self.dice.pick(&EDGE_SIZES);
-                draft.data = self.data_of(draft.rule.kind, length);
+                draft.data = self.filling(draft.rule, length);
             }
+            _ => draft.data = self.data_just_beyond(draft.rule),
         }
+    }
+
+    /// Data of any length for a label: of its kind if it has but one, else of
+    /// digits or text.
+    fn filling(&mut self, rule: &Rule, length: usize) -> Vec<u8> {
+        let kind = match only_kind_of(rule) {
+            Some(kind) => kind,
+            None => *self.dice.pick(&[Kind::Decimal, Kind::Text]),
+        };
+        self.data_of(kind, length)
     }
 
     fn spoil_kind(&mut self, draft: &mut Draft) {
@@ -428,11 +479,15 @@ impl Generator {
             self.spoil_width(draft);
             return;
         }
+        let Some(kind) = only_kind_of(draft.rule) else {
+            self.spoil_fields(draft);
+            return;
+        };
         self.note("spoilt: kind");
         let length = draft.data.len();
         let anywhere = self.dice.below(length);
         let place = *self.dice.pick(&[0, length - 1, anywhere]);
-        draft.data[place] = match draft.rule.kind {
+        draft.data[place] = match kind {
             Kind::Decimal => *self.dice.pick(b"/:AF -.\t\x1F\x7F\x00"),
             Kind::Hexadecimal => *self.dice.pick(b"/:@Gafg` \t\x00\x7F"),
             Kind::Text => *self.dice.pick(b"\x1F\x7F\x00\x01\t\x0B\x1B"),
@@ -442,7 +497,7 @@ impl Generator {
     fn spoil_check(&mut self, draft: &mut Draft) {
         self.note("spoilt: check character");
         draft.check = match self.dice.below(6) {
-            0 => CheckChoice::RuleOfOtherMode,
+            0 => CheckChoice::OtherSum,
             1 => CheckChoice::Moved(*self.dice.pick(&[1, 255])),
             2 => CheckChoice::Moved(*self.dice.pick(&[32, 64, 128, 192, 224])),
             3 => CheckChoice::Fixed(self.dice.between(0x20, 0x5F) as u8),
@@ -495,7 +550,7 @@ impl Generator {
                 let mut draft = self.right_draft(mode);
                 let others = draft.content().len() - draft.data.len();
                 if let Some(rest) = length.checked_sub(others) {
-                    draft.data = self.data_of(draft.rule.kind, rest);
+                    draft.data = self.filling(draft.rule, rest);
                     return draft.content();
                 }
                 let mut content = draft.content();
@@ -513,10 +568,27 @@ impl Generator {
 fn close_content(mode: Mode, content: &mut [u8]) {
     let length = content.len();
     content[length - 2] = mode.separator();
-    content[length - 1] = check_character(match mode {
-        Mode::Historic => &content[..length - 2],
-        Mode::Standard => &content[..length - 1],
-    });
+    content[length - 1] = check_character(summed_part(mode, &content[..length - 1]));
+}
+
+/// Each of the labels with each of its alternatives.
+fn labels_and_alternatives(rules: &[&'static Rule]) -> Vec<(&'static Rule, &'static [Field])> {
+    rules
+        .iter()
+        .flat_map(|rule| {
+            let alternatives = rule.alternatives.iter();
+            alternatives.map(move |fields| (*rule, &fields[..]))
+        })
+        .collect()
+}
+
+/// The kind of data that are a single field of one kind; none where there are
+/// several fields, or a text.
+fn only_kind_of(rule: &Rule) -> Option<Kind> {
+    match rule.format {
+        Format::Field(Field::Run { kind, .. }) => Some(kind),
+        _ => None,
+    }
 }
 
 fn stamp_text(letter: u8, fields: [usize; 6]) -> Vec<u8> {

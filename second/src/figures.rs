@@ -6,6 +6,7 @@ use crate::captures::group_on_wire;
 use crate::compare::{go_through, Settings};
 use crate::dice::Dice;
 use crate::drafts::{Generator, Spoiling};
+use crate::formats::{run, Kind};
 use crate::group::{check_character, judge, stamp_is_right, write};
 use crate::hexadecimal::hexadecimal;
 use crate::histories::{log_bytes, Item, CALLS_IN_HISTORY};
@@ -15,14 +16,17 @@ use crate::numbers::{number_of_call, Answer, Refusal};
 use crate::replay::{read_log, replay, replies_to, Call};
 use crate::station::{counts_of, Station, LINES};
 use crate::table::{
-    all_rules, find_rule, labels_said, stamped_rules, Kind, Mode, Rule, Season, SMALL_SEASONS,
+    all_rules, find_rule, labels_said, stamped_rules, Mode, Rule, Season, MODES, SMALL_SEASONS,
 };
-use crate::tally::Place;
+use crate::tally::GROUP_PLACES;
 use crate::wire::{all_to_wire, character_of, is_sound, to_wire};
 use std::collections::BTreeSet;
 
+mod business;
+
 const HISTORIC: u8 = 0;
 const STANDARD: u8 = 1;
+const BUSINESS: u8 = 2;
 
 /// Judges a content and gives its number.
 fn judged(mode: u8, content: &[u8]) -> u8 {
@@ -48,12 +52,12 @@ fn accepted(label: &str, stamp: &str, data: &str) -> (u8, Vec<u8>, Vec<u8>, Vec<
 /// A content closed by the mode's separator and the right check character.
 fn closed(mode: u8, body: &[u8]) -> Vec<u8> {
     let mut content = body.to_vec();
-    if mode == HISTORIC {
-        let check = check_character(&content);
-        content.extend([b' ', check]);
-    } else {
+    if mode == STANDARD {
         content.push(b'\t');
         content.push(check_character(&content));
+    } else {
+        let check = check_character(&content);
+        content.extend([b' ', check]);
     }
     content
 }
@@ -163,7 +167,11 @@ fn wire_bytes_of_the_control_characters() {
 #[test]
 fn lists_have_as_many_labels_as_they_say() {
     for mode in [Mode::Historic, Mode::Standard] {
-        assert_eq!(all_rules(mode).len(), labels_said(mode), "{mode:?}");
+        assert_eq!(Some(all_rules(mode).len()), labels_said(mode), "{mode:?}");
+    }
+    for mode in MODES {
+        let labels: BTreeSet<&str> = all_rules(mode).iter().map(|rule| &rule.label[..]).collect();
+        assert_eq!(labels.len(), all_rules(mode).len(), "{mode:?}");
     }
 }
 
@@ -174,8 +182,10 @@ fn labels_that_are_stamped() {
         let stamped = families.iter().any(|name| rule.label.starts_with(name));
         assert_eq!(rule.stamp.is_some(), stamped, "{}", rule.label);
     }
-    for rule in all_rules(Mode::Historic) {
-        assert_eq!(rule.stamp, None, "{}", rule.label);
+    for mode in [Mode::Historic, Mode::Business] {
+        for rule in all_rules(mode) {
+            assert_eq!(rule.stamp, None, "{}", rule.label);
+        }
     }
 }
 
@@ -216,7 +226,9 @@ fn some_rows_of_the_lists() {
     ];
     for (mode, label, width, kind, stamp) in expected {
         let rule = find_rule(mode, label.as_bytes()).expect(label);
-        assert_eq!((rule.width, rule.kind, rule.stamp), (width, kind, stamp));
+        assert_eq!(rule.format, run(kind, width, width));
+        assert_eq!((rule.shortest, rule.longest), (width, width));
+        assert_eq!(rule.stamp, stamp);
     }
     for label in ["EASF00", "EASF11", "EASD05", "ERQ5", "URMS4", "DPM4", ""] {
         assert_eq!(find_rule(Mode::Standard, label.as_bytes()), None);
@@ -369,7 +381,7 @@ fn bytes_of_128_or_more_in_a_lent_content() {
 fn order_of_refusals_when_judging() {
     // 19, then 8 to 14 as numbered: each content has its own fault and all
     // the later ones it can have.
-    assert_eq!(judged(2, &[b'A'; 129]), 19);
+    assert_eq!(judged(3, &[b'A'; 129]), 19);
     assert_eq!(judged(255, b"URMS1\t230\t?"), 19);
     assert_eq!(judged(STANDARD, &[b'A'; 129]), 8);
     assert_eq!(judged(STANDARD, b"NOLABEL\tH\x01"), 9);
@@ -396,12 +408,12 @@ fn order_of_refusals_when_judging() {
 
 #[test]
 fn content_of_128_and_129() {
-    for mode in [HISTORIC, STANDARD] {
-        let label: &[u8] = if mode == HISTORIC {
-            b"ADCO "
-        } else {
-            b"ADSC\t"
-        };
+    let labels: [(u8, &[u8]); 3] = [
+        (HISTORIC, b"ADCO "),
+        (STANDARD, b"ADSC\t"),
+        (BUSINESS, b"ADS "),
+    ];
+    for (mode, label) in labels {
         let of_length = |length: usize| {
             let mut body = label.to_vec();
             body.resize(length - 2, b'0');
@@ -425,13 +437,14 @@ fn content_of_128_and_129() {
 #[test]
 fn written_groups_are_read_again() {
     let mut generator = Generator::new(Dice::new(17));
-    for mode in [Mode::Historic, Mode::Standard] {
+    for mode in MODES {
         for rule in all_rules(mode) {
             let stamp = match rule.stamp {
                 None => Vec::new(),
                 Some(season) => generator.right_stamp(season),
             };
-            let data = generator.data_of(rule.kind, rule.width);
+            let fields = generator.dice.pick(&rule.alternatives);
+            let data = generator.data_of_fields(fields);
             let label = rule.label.as_bytes();
             let mut buffer = [0x55; 200];
             let written = write(mode.number(), label, &stamp, &data, &mut buffer)
@@ -486,7 +499,7 @@ fn order_of_refusals_when_writing() {
         number_of_call(&writing)
     };
     let stamp = "H081225223518";
-    assert_eq!(number(2, "NOLABEL", "x", "abcd", 0), 19);
+    assert_eq!(number(3, "NOLABEL", "x", "abcd", 0), 19);
     assert_eq!(number(1, "NOLABEL", "x", "abcd", 0), 11);
     assert_eq!(number(1, "PAPP", "", "00750", 100), 11);
     assert_eq!(number(0, "URMS1", "", "230", 100), 11);
@@ -664,7 +677,7 @@ fn whole_reading_agrees_with_the_sentences_one_by_one() {
         let mut generator = Generator::new(Dice::for_item(99, 1, index));
         let capture = generator.capture();
         let wire = capture.get(1..).unwrap_or(&[]);
-        for mode in [Mode::Historic, Mode::Standard] {
+        for mode in MODES {
             assert_eq!(
                 read_whole(mode, wire),
                 read_sentence_by_sentence(mode, wire)
@@ -704,15 +717,15 @@ fn open_station(line: u8, mode: u8) -> Station {
 fn order_of_refusals_when_opening() {
     let mut station = Station::new();
     // "Opening: 16, 19."
-    assert_eq!(station.open(8, 2), Err(Refusal::NoSuchLine));
+    assert_eq!(station.open(8, 3), Err(Refusal::NoSuchLine));
     assert_eq!(station.open(8, 0), Err(Refusal::NoSuchLine));
     assert_eq!(station.open(255, 1), Err(Refusal::NoSuchLine));
-    assert_eq!(station.open(7, 2), Err(Refusal::UnknownMode));
+    assert_eq!(station.open(7, 3), Err(Refusal::UnknownMode));
     assert_eq!(station.deliver(7, b""), Err(Refusal::LineClosed));
     assert_eq!(station.open(7, 1), Ok(()));
     assert_eq!(station.deliver(7, &[0x82, 0x82]), Ok(()));
     // A refused opening leaves the line as it was.
-    assert_eq!(station.open(7, 2), Err(Refusal::UnknownMode));
+    assert_eq!(station.open(7, 3), Err(Refusal::UnknownMode));
     assert_eq!(station.inbox_length(7), Some(2));
 }
 
@@ -891,7 +904,7 @@ fn whole_case_of_the_listing() {
 fn bad_captures_and_captures_without_answers() {
     assert_eq!(listing(b""), "20\n");
     assert_eq!(listing(b"h"), "20\n");
-    assert_eq!(listing(b"P\x82\x03"), "20\n");
+    assert_eq!(listing(b"Q\x82\x03"), "20\n");
     assert_eq!(listing(b"\xC8\x82\x03"), "20\n");
     assert_eq!(listing(b"\xD3\x82\x03"), "20\n");
     assert_eq!(listing(b"H"), "");
@@ -1056,7 +1069,7 @@ const THE_SIX: [&str; 6] = ["DPM1", "DPM2", "DPM3", "FPM1", "FPM2", "FPM3"];
 /// Label, stamp and data of a group, right in all but perhaps the season.
 fn fields_with(rule: &Rule, season: u8) -> [Vec<u8>; 3] {
     let stamp = [&[season][..], b"081225223518"].concat();
-    [rule.label.clone().into(), stamp, vec![b'0'; rule.width]]
+    [rule.label.clone().into(), stamp, vec![b'0'; rule.longest]]
 }
 
 /// The content of such a group.
@@ -1259,14 +1272,8 @@ fn m_101_small_seasons_in_the_captures_and_histories_of_the_gate() {
         replay_program: None,
     });
     assert!(difference.is_none());
-    let places = [
-        (Place::Listing, "listing"),
-        (Place::Sheet, "sheet"),
-        (Place::Judging, "judging"),
-        (Place::Writing, "writing"),
-    ];
     let report = tally.report(2000, 200);
-    for (place, name) in places {
+    for (place, name) in GROUP_PLACES {
         for rule in stamped_rules() {
             for small in SMALL_SEASONS {
                 let times = tally.times_met(place, &rule.label, small);

@@ -1,4 +1,5 @@
-//! One group, read and written (document 01, "One group"; document 02, M-101).
+//! One group, read and written (document 01, "One group"; document 02, M-100 and
+//! M-101).
 
 use crate::numbers::Refusal;
 use crate::table::{find_rule, Mode, Rule, Season};
@@ -149,15 +150,18 @@ fn find_shape(mode: Mode, content: &[u8]) -> Option<Shape<'_>> {
     Some(Shape {
         label: &body[..label_end],
         rest: &body[label_end + 1..],
-        // "Historic: the sum runs from the first character through the last
-        // of the data, so the final separator is not counted. Standard: it is
-        // counted too."
-        summed: match mode {
-            Mode::Historic => body,
-            Mode::Standard => through_separator,
-        },
+        summed: summed_part(mode, through_separator),
         check: *check,
     })
+}
+
+/// What the sum runs over, of a content through its final separator.
+pub fn summed_part(mode: Mode, through_separator: &[u8]) -> &[u8] {
+    if mode.sums_final_separator() {
+        through_separator
+    } else {
+        &through_separator[..through_separator.len() - 1]
+    }
 }
 
 /// "A stamped label is followed by 13 characters of stamp and an HT that is
@@ -174,11 +178,14 @@ fn part_stamp(season: Season, rest: &[u8]) -> Option<(&[u8], &[u8])> {
 }
 
 /// 13, "data not of the width", then 14, "a data character not of the kind".
+/// Document 02, M-100: of several fields or a varying length, "13 is a length
+/// outside" the smallest and the largest, "14 any other data that don't fit the
+/// fields", also where no alternative has the length.
 fn judge_data(rule: &Rule, data: &[u8]) -> Result<(), Refusal> {
-    if data.len() != rule.width {
+    if !(rule.shortest..=rule.longest).contains(&data.len()) {
         return Err(Refusal::WrongWidth);
     }
-    if !data.iter().all(|one| rule.kind.holds(*one)) {
+    if !rule.format.fits(data) {
         return Err(Refusal::WrongKind);
     }
     Ok(())
@@ -211,10 +218,7 @@ pub fn compose(
     let separator = [mode.separator()];
     let body = fields.join(&separator[..]);
     let through_separator = [&body[..], &separator[..]].concat();
-    let check = check_character(match mode {
-        Mode::Historic => &body,
-        Mode::Standard => &through_separator,
-    });
+    let check = check_character(summed_part(mode, &through_separator));
     let characters = [
         &[LINE_FEED][..],
         &through_separator[..],

@@ -12,7 +12,7 @@ use std::collections::VecDeque;
 pub const CALLS_IN_HISTORY: usize = 100;
 
 const WRONG_LINES: [u8; 7] = [8, 9, 15, 16, 64, 128, 255];
-const WRONG_MODES: [u8; 8] = [2, 3, 16, 48, 49, 72, 128, 255];
+const WRONG_MODES: [u8; 11] = [3, 3, 3, 4, 16, 48, 50, 80, 128, 130, 255];
 const SHEET_SIZES: [usize; 10] = [0, 1, 23, 24, 1079, 1079, 1081, 2000, 1096, 4096];
 
 /// One item of a log: a call, or bytes that are no whole record.
@@ -48,15 +48,17 @@ enum Plan {
 }
 
 /// The plans take turns, so that each has its share of the histories. Groups
-/// alone stand twice, so that judging and writing meet every label, and every
-/// stamped one with each small season.
-const PLANS: [Plan; 7] = [
+/// alone stand four times, so that judging and writing meet every label, every
+/// stamped one with each small season, and every alternative.
+const PLANS: [Plan; 9] = [
     Plan::Mixed,
     Plan::GroupsAlone,
     Plan::Traffic,
+    Plan::GroupsAlone,
     Plan::FullInboxes,
     Plan::GroupsAlone,
     Plan::TurnEdges,
+    Plan::GroupsAlone,
     Plan::LongSheets,
 ];
 
@@ -107,6 +109,16 @@ struct Maker<'generator> {
     least_width: usize,
 }
 
+/// How many of a hundred judged or written groups are right. Standard mode has
+/// those with a small season besides.
+fn share_of_right(mode: Mode) -> usize {
+    match mode {
+        Mode::Historic => 50,
+        Mode::Standard => 38,
+        Mode::Business => 65,
+    }
+}
+
 /// In the plan of long sheets, so many rounds follow on the deliveries.
 const ROUNDS_OF_LONG_SHEETS: usize = 4;
 
@@ -115,6 +127,9 @@ impl Generator {
     /// something that cannot be read.
     pub fn history(&mut self, number: u64) -> Vec<Item> {
         let plan = PLANS[number as usize % PLANS.len()];
+        // About as many groups of a mode are judged in a history as lie between
+        // the first turns of two histories.
+        self.first_turn = number as usize * 5;
         let mut maker = Maker {
             generator: self,
             plan,
@@ -198,7 +213,7 @@ impl Generator {
                 self.note("call: unknown mode");
                 *self.dice.pick(&WRONG_MODES)
             }
-            4..=7 => mode.other().number(),
+            4..=7 => self.other_mode(mode).number(),
             _ => mode.number(),
         }
     }
@@ -206,15 +221,19 @@ impl Generator {
     fn judging(&mut self) -> Call {
         let mode = self.mode();
         let content = match self.dice.below(100) {
-            0..=25 => {
-                self.note("judging: right group");
-                self.right_draft(mode).content()
+            drawn if drawn < share_of_right(mode) => {
+                let deed = match mode {
+                    Mode::Historic => "judging: right group, historic",
+                    Mode::Standard => "judging: right group, standard",
+                    Mode::Business => "judging: right group, business",
+                };
+                self.right_draft_in_turn(mode, deed).content()
             }
-            26..=47 if mode == Mode::Standard => {
+            0..=59 if mode == Mode::Standard => {
                 self.note("judging: small season");
                 self.degraded_draft().content()
             }
-            26..=81 => {
+            0..=81 => {
                 self.note("judging: spoilt group");
                 let draft = self.spoilt_draft(
                     mode,
@@ -257,11 +276,15 @@ impl Generator {
     fn writing(&mut self) -> Call {
         let mode = self.mode();
         let draft = match self.dice.below(100) {
-            0..=34 => {
-                self.note("writing: right fields");
-                self.right_draft(mode)
+            drawn if drawn < share_of_right(mode) => {
+                let deed = match mode {
+                    Mode::Historic => "writing: right fields, historic",
+                    Mode::Standard => "writing: right fields, standard",
+                    Mode::Business => "writing: right fields, business",
+                };
+                self.right_draft_in_turn(mode, deed)
             }
-            35..=66 if mode == Mode::Standard => {
+            0..=63 if mode == Mode::Standard => {
                 self.note("writing: small season");
                 self.degraded_draft()
             }
@@ -299,18 +322,18 @@ impl Generator {
     /// The size of a lent buffer, often just enough or one too short.
     fn buffer_size(&mut self, draft: &Draft) -> usize {
         let needed = group_on_wire(&draft.content()).len();
-        match self.dice.below(12) {
-            0..=4 => {
+        match self.dice.below(20) {
+            0..=12 => {
                 self.note("writing: buffer just long enough");
                 needed
             }
-            5 | 6 => {
+            13 | 14 => {
                 self.note("writing: buffer one too short");
                 needed.saturating_sub(1)
             }
-            7 => needed + 1,
-            8 => self.dice.below(needed + 1),
-            9 => *self.dice.pick(&[0, 1, 2, 4096]),
+            15 => needed + 1,
+            16 => self.dice.below(needed + 1),
+            17 => *self.dice.pick(&[0, 1, 2, 4096]),
             _ => *self.dice.pick(&EDGE_SIZES),
         }
     }
@@ -345,7 +368,7 @@ impl Generator {
         self.note("delivery: a long group");
         let mut draft = self.right_draft(mode);
         for _ in 0..100 {
-            if draft.rule.width >= least_width {
+            if draft.data.len() >= least_width {
                 break;
             }
             draft = self.right_draft(mode);
@@ -361,15 +384,12 @@ impl Generator {
 
 impl Maker<'_> {
     fn first_opening(&mut self, index: usize) -> Call {
-        let dice = &mut self.generator.dice;
-        let (line, standard) = match self.plan {
-            Plan::LongSheets => (index, dice.percent(90)),
-            _ => (dice.below(LINES), dice.percent(60)),
-        };
-        let mode = if standard {
-            Mode::Standard
-        } else {
-            Mode::Historic
+        let generator = &mut self.generator;
+        let (line, mode) = match self.plan {
+            // Standard mode has the longest groups.
+            Plan::LongSheets if generator.dice.percent(85) => (index, Mode::Standard),
+            Plan::LongSheets => (index, generator.mode()),
+            _ => (generator.dice.below(LINES), generator.mode()),
         };
         Call::Open {
             line: line as u8,
@@ -510,8 +530,8 @@ impl Maker<'_> {
             _ => generator.dice.between(1, 70),
         };
         while self.streams[line].len() < length {
-            if mode == Mode::Standard && generator.dice.percent(40) {
-                self.streams[line].extend(generator.degraded_frame());
+            if generator.dice.percent(50) {
+                self.streams[line].extend(generator.own_frame(mode));
             }
             let more = generator.traffic(mode, 100);
             self.streams[line].extend(more);

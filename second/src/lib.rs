@@ -1,18 +1,22 @@
-//! A second reader of customer telemetry, written from documents 01 and 02
-//! alone, and a comparer that holds other programs against it.
+//! A second reader of customer telemetry, written from documents 01 and 02, and
+//! from document 003 where 02 refers to it, and a comparer that holds other
+//! programs against it.
 //!
 //! It works on whole captures and whole histories, and shares nothing with
 //! any first implementation.
 
+pub mod business;
 pub mod captures;
 pub mod compare;
 pub mod dice;
 pub mod drafts;
+pub mod formats;
 pub mod group;
 pub mod hexadecimal;
 pub mod histories;
 pub mod line;
 pub mod listing;
+pub mod near_misses;
 pub mod numbers;
 pub mod replay;
 pub mod station;

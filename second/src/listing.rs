@@ -1,18 +1,20 @@
-//! The listing of a capture (document 01, "The listing").
+//! The listing of a capture (document 01, "The listing"; document 02, M-100).
 
 use crate::line::{read_whole, PlacedAnswer};
 use crate::numbers::{Answer, Refusal};
 use crate::table::Mode;
 
-/// All answers of a capture, their places counted in its wire bytes, or 20:
-/// "capture empty or not begun by H or S".
-pub fn answers_of_capture(capture: &[u8]) -> Result<Vec<PlacedAnswer>, Refusal> {
+/// The mode of a capture and its wire bytes, or 20: "capture empty", or "not
+/// begun by H, S or P" (document 02, M-100).
+pub fn open_capture(capture: &[u8]) -> Result<(Mode, &[u8]), Refusal> {
     let (first, wire) = capture.split_first().ok_or(Refusal::BadCapture)?;
-    let mode = match first {
-        b'H' => Mode::Historic,
-        b'S' => Mode::Standard,
-        _ => return Err(Refusal::BadCapture),
-    };
+    let mode = Mode::from_letter(*first).ok_or(Refusal::BadCapture)?;
+    Ok((mode, wire))
+}
+
+/// All answers of a capture, their places counted in its wire bytes, or 20.
+pub fn answers_of_capture(capture: &[u8]) -> Result<Vec<PlacedAnswer>, Refusal> {
+    let (mode, wire) = open_capture(capture)?;
     Ok(read_whole(mode, wire))
 }
 

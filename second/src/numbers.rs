@@ -1,4 +1,5 @@
-//! The answers and refusals of document 01's table "Numbers".
+//! The answers and refusals of document 01's table "Numbers", 13, 14, 19 and 20
+//! as document 02, M-100, changes them.
 
 /// A refusal, by the sentence of the table that gives it.
 #[derive(Clone, Copy, Debug, PartialEq, Eq, PartialOrd, Ord)]
@@ -16,9 +17,11 @@ pub enum Refusal {
     UnknownLabel,
     /// 12: the stamp is not right, missing, or given where none belongs
     WrongStamp,
-    /// 13: "data not of the width"
+    /// 13: "data not of the width", or of a length outside the smallest and
+    /// the largest
     WrongWidth,
-    /// 14: "a data character not of the kind"
+    /// 14: "a data character not of the kind", or "any other data that don't
+    /// fit the fields"
     WrongKind,
     /// 15: "inbox or lent buffer too short for all"
     NoRoom,
@@ -28,9 +31,9 @@ pub enum Refusal {
     LineClosed,
     /// 18: "sheet under 1,080 bytes"
     SheetTooShort,
-    /// 19: "mode not 0 or 1"
+    /// 19: "a mode not 0 to 2"
     UnknownMode,
-    /// 20: "capture empty or not begun by H or S"
+    /// 20: capture empty or "not begun by H, S or P"
     BadCapture,
 }
 

@@ -1,28 +1,30 @@
-//! The modes and the two lists of labels (document 01, "One group"), and the
-//! seasons of a stamp (also document 02, M-101).
+//! The modes and their lists of labels (document 01, "One group"; document 02,
+//! M-100), and the seasons of a stamp (also document 02, M-101).
 //!
-//! The lists are held as the very sentences of document 01 and expanded when
-//! they are first asked for.
+//! The lists of modes 0 and 1 are held as the very sentences of document 01 and
+//! expanded when they are first asked for; `business.rs` has that of mode 2.
 
+use crate::business;
+use crate::formats::{run, Field, Format, Kind};
 use crate::wire::{HORIZONTAL_TAB, SPACE};
-use std::collections::BTreeMap;
 use std::sync::OnceLock;
 
-/// "Mode 0 is historic, separator SP. Mode 1 is standard, separator HT."
+/// "Mode 0 is historic, separator SP. Mode 1 is standard, separator HT." By
+/// document 02, M-100, the older business meter is mode 2.
 #[derive(Clone, Copy, Debug, PartialEq, Eq, PartialOrd, Ord)]
 pub enum Mode {
     Historic,
     Standard,
+    Business,
 }
 
+/// All modes.
+pub const MODES: [Mode; 3] = [Mode::Historic, Mode::Standard, Mode::Business];
+
 impl Mode {
-    /// The mode of a number; none for 19, "mode not 0 or 1".
+    /// The mode of a number; none for 19, which "now means a mode not 0 to 2".
     pub fn from_number(number: u8) -> Option<Mode> {
-        match number {
-            0 => Some(Mode::Historic),
-            1 => Some(Mode::Standard),
-            _ => None,
-        }
+        MODES.into_iter().find(|mode| mode.number() == number)
     }
 
     /// The number of the mode.
@@ -30,42 +32,52 @@ impl Mode {
         match self {
             Mode::Historic => 0,
             Mode::Standard => 1,
+            Mode::Business => 2,
         }
     }
 
-    /// The separator of the mode.
+    /// The mode of a capture that begins with this byte; none for 20, "a
+    /// capture not begun by H, S or P".
+    pub fn from_letter(letter: u8) -> Option<Mode> {
+        MODES.into_iter().find(|mode| mode.letter() == letter)
+    }
+
+    /// The byte that begins a capture of the mode.
+    pub fn letter(self) -> u8 {
+        match self {
+            Mode::Historic => b'H',
+            Mode::Standard => b'S',
+            Mode::Business => b'P',
+        }
+    }
+
+    /// The separator of the mode. Document 003, 2.9.1, for the business meter:
+    /// "tous les caractères-séparateurs ... ont une valeur identique égale au
+    /// caractère ASCII « espace »".
     pub fn separator(self) -> u8 {
         match self {
-            Mode::Historic => SPACE,
+            Mode::Historic | Mode::Business => SPACE,
             Mode::Standard => HORIZONTAL_TAB,
         }
     }
 
-    /// The mode that this one is not.
-    pub fn other(self) -> Mode {
-        match self {
-            Mode::Historic => Mode::Standard,
-            Mode::Standard => Mode::Historic,
+    /// The separator that is not the mode's.
+    pub fn wrong_separator(self) -> u8 {
+        match self.separator() {
+            SPACE => HORIZONTAL_TAB,
+            _ => SPACE,
         }
     }
-}
 
-/// "Data kinds: N decimal digits; X digits and A to F; T any of 0x20 to 0x7E."
-#[derive(Clone, Copy, Debug, PartialEq, Eq)]
-pub enum Kind {
-    Decimal,
-    Hexadecimal,
-    Text,
-}
-
-impl Kind {
-    /// Whether a character is of the kind; "one of 128 or more ... is of no
-    /// kind".
-    pub fn holds(self, character: u8) -> bool {
+    /// "Historic: the sum runs from the first character through the last of the
+    /// data, so the final separator is not counted. Standard: it is counted
+    /// too." Document 003, 2.9.1: the business meter sums by "mode de calcul
+    /// n°1", which is (1.5.2) "en excluant tout caractère placé après la fin du
+    /// champ « donnée » (caractère-séparateur, ...)".
+    pub fn sums_final_separator(self) -> bool {
         match self {
-            Kind::Decimal => character.is_ascii_digit(),
-            Kind::Hexadecimal => character.is_ascii_digit() || (b'A'..=b'F').contains(&character),
-            Kind::Text => (0x20..=0x7E).contains(&character),
+            Mode::Historic | Mode::Business => false,
+            Mode::Standard => true,
         }
     }
 }
@@ -96,10 +108,35 @@ impl Season {
 #[derive(Clone, Debug, PartialEq, Eq)]
 pub struct Rule {
     pub label: String,
-    pub width: usize,
-    pub kind: Kind,
+    pub format: Format,
+    /// "The label's row gives the smallest and largest length" (M-100), over
+    /// all alternatives of the format. With a single width both are that.
+    pub shortest: usize,
+    pub longest: usize,
+    /// The alternatives of the format, each without a choice left in it.
+    pub alternatives: Vec<Vec<Field>>,
     /// The season rule of a stamped label; none for an unstamped one.
     pub stamp: Option<Season>,
+}
+
+impl Rule {
+    pub fn new(label: String, format: Format, stamp: Option<Season>) -> Rule {
+        let lengths = format.lengths();
+        Rule {
+            label,
+            shortest: *lengths.first().expect("some data fit"),
+            longest: *lengths.last().expect("some data fit"),
+            alternatives: format.alternatives(),
+            format,
+            stamp,
+        }
+    }
+
+    /// Whether the format has a length between its shortest and its longest
+    /// that no fitting data have.
+    pub fn has_gap(&self) -> bool {
+        self.format.lengths().len() < self.longest - self.shortest + 1
+    }
 }
 
 /// The list of standard mode, as document 01 writes it.
@@ -120,55 +157,51 @@ BASE, HCHC, HCHP, EJPHN, EJPHPM, BBRHCJB, BBRHPJB, BBRHCJW, BBRHPJW, BBRHCJR, BB
 IINST, IINST1 to IINST3, ADPS, ADIR1 to ADIR3, IMAX, IMAX1 to IMAX3 N3; PAPP, PMAX N5; \
 HHPHC T1; MOTDETAT T6; PPOT T2";
 
-/// The sentence of a mode: how many labels it says that there are, and its
-/// list of them.
-fn sentence_of(mode: Mode) -> (usize, &'static str) {
+/// The sentence of document 01 for a mode: how many labels it says that there
+/// are, and its list of them. It has none for the business meter.
+fn sentence_of(mode: Mode) -> Option<(usize, &'static str)> {
     let sentence = match mode {
         Mode::Standard => STANDARD_SENTENCE,
         Mode::Historic => HISTORIC_SENTENCE,
+        Mode::Business => return None,
     };
     let (heading, list) = sentence.split_once(": ").expect("a heading and a list");
     let count = heading.split(' ').find_map(|word| word.parse().ok());
-    (count.expect("the heading has a number"), list)
+    Some((count.expect("the heading has a number"), list))
 }
 
-/// How many labels document 01 says that a mode has.
-pub fn labels_said(mode: Mode) -> usize {
-    sentence_of(mode).0
+/// How many labels document 01 says that a mode has, if it speaks of the mode.
+pub fn labels_said(mode: Mode) -> Option<usize> {
+    sentence_of(mode).map(|(count, _)| count)
 }
 
-type RulesByLabel = BTreeMap<Vec<u8>, Rule>;
-
-fn rules_by_label(mode: Mode) -> &'static RulesByLabel {
-    static STANDARD: OnceLock<RulesByLabel> = OnceLock::new();
-    static HISTORIC: OnceLock<RulesByLabel> = OnceLock::new();
+/// All rules of a mode, in the order in which its document has them.
+pub fn all_rules(mode: Mode) -> &'static [Rule] {
+    static STANDARD: OnceLock<Vec<Rule>> = OnceLock::new();
+    static HISTORIC: OnceLock<Vec<Rule>> = OnceLock::new();
+    static BUSINESS: OnceLock<Vec<Rule>> = OnceLock::new();
     let place = match mode {
         Mode::Standard => &STANDARD,
         Mode::Historic => &HISTORIC,
+        Mode::Business => &BUSINESS,
     };
-    place.get_or_init(|| {
-        let (_, list) = sentence_of(mode);
-        expand_list(list)
-            .into_iter()
-            .map(|rule| (rule.label.clone().into_bytes(), rule))
-            .collect()
+    place.get_or_init(|| match sentence_of(mode) {
+        Some((_, list)) => expand_list(list),
+        None => business::rules(),
     })
 }
 
 /// The rule of a label in a mode, if the label is in the mode's list.
 pub fn find_rule(mode: Mode, label: &[u8]) -> Option<&'static Rule> {
-    rules_by_label(mode).get(label)
-}
-
-/// All rules of a mode, in byte order of their labels.
-pub fn all_rules(mode: Mode) -> Vec<&'static Rule> {
-    rules_by_label(mode).values().collect()
+    all_rules(mode)
+        .iter()
+        .find(|rule| rule.label.as_bytes() == label)
 }
 
 /// The rules of the stamped labels; all of them are of standard mode.
 pub fn stamped_rules() -> Vec<&'static Rule> {
     all_rules(Mode::Standard)
-        .into_iter()
+        .iter()
         .filter(|rule| rule.stamp.is_some())
         .collect()
 }
@@ -200,12 +233,7 @@ fn expand_list(list: &str) -> Vec<Rule> {
                 } else {
                     Some(Season::WinterOrSummer)
                 };
-                rules.push(Rule {
-                    label,
-                    width,
-                    kind,
-                    stamp,
-                });
+                rules.push(Rule::new(label, run(kind, width, width), stamp));
             }
         }
     }

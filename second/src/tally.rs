@@ -1,16 +1,17 @@
 //! What came up in the captures and histories that were made, and the closing
 //! report of it.
 
+use crate::formats::Format;
 use crate::group::stamp_is_right;
 use crate::histories::CALLS_IN_HISTORY;
-use crate::line::PlacedAnswer;
-use crate::listing::answers_of_capture;
-use crate::numbers::{Answer, Refusal};
+use crate::line::{read_whole, PlacedAnswer};
+use crate::listing::open_capture;
+use crate::numbers::Answer;
 use crate::replay::{read_log, Call, Entry, Reply};
 use crate::station::{LINES, LONGEST_TURN};
-use crate::table::{all_rules, find_rule, stamped_rules, Mode, Season, SMALL_SEASONS};
+use crate::table::{all_rules, find_rule, stamped_rules, Mode, Rule, Season, SMALL_SEASONS};
 use crate::wire::{character_of, to_wire, HORIZONTAL_TAB, LINE_FEED};
-use std::collections::{BTreeMap, BTreeSet};
+use std::collections::BTreeMap;
 
 /// Where an answer was seen, one column of the closing table.
 #[derive(Clone, Copy, Debug, PartialEq, Eq, PartialOrd, Ord)]
@@ -34,6 +35,51 @@ const PLACES: [(Place, &str); 7] = [
     (Place::Writing, "writing"),
 ];
 
+/// The places that see groups.
+pub const GROUP_PLACES: [(Place, &str); 4] = [
+    (Place::Listing, "listing"),
+    (Place::Sheet, "sheet"),
+    (Place::Judging, "judging"),
+    (Place::Writing, "writing"),
+];
+
+/// A group whose label is in its mode's list, as it was accepted, written or
+/// refused.
+struct Group<'texts> {
+    mode: Mode,
+    label: &'texts [u8],
+    stamp: &'texts [u8],
+    data: &'texts [u8],
+}
+
+impl<'texts> Group<'texts> {
+    /// The group of a content that was refused as 12, 13 or 14, so that it has
+    /// its separators. For a stamp it must have an HT of its own and not only
+    /// the final one.
+    fn of_content(mode: Mode, content: &'texts [u8]) -> Option<Group<'texts>> {
+        let body = &content[..content.len().checked_sub(2)?];
+        let mut fields = body.splitn(2, |one| *one == mode.separator());
+        let (label, rest) = (fields.next()?, fields.next()?);
+        let stamped = find_rule(mode, label)?.stamp.is_some();
+        let (stamp, data) = if stamped {
+            let end = rest.iter().position(|one| *one == HORIZONTAL_TAB)?;
+            (&rest[..end], &rest[end + 1..])
+        } else {
+            (&rest[..0], rest)
+        };
+        Some(Group {
+            mode,
+            label,
+            stamp,
+            data,
+        })
+    }
+}
+
+/// A label of the business meter, an answer to it and the length of its data.
+/// The answer to a written group is 1, as to a group accepted.
+type BusinessKey = (Place, &'static str, u8, usize);
+
 /// What was seen in the inputs that were made.
 #[derive(Default)]
 pub struct Tally {
@@ -43,9 +89,15 @@ pub struct Tally {
     calls: u64,
     unreadable_logs: u64,
     answers: BTreeMap<(u8, Place), u64>,
-    labels_accepted: BTreeMap<Place, BTreeSet<(Mode, Vec<u8>)>>,
+    /// How often a label was accepted or written.
+    labels_accepted: BTreeMap<(Place, Mode, &'static str), u64>,
     /// How often a stamped label was met with a small season.
     small_seasons: BTreeMap<(Place, &'static str, u8), u64>,
+    /// How often a label of the business meter was accepted or written, or
+    /// refused for its stamp or its data.
+    business: BTreeMap<BusinessKey, u64>,
+    /// How often each alternative of such a label was accepted or written.
+    alternatives: BTreeMap<(Place, &'static str, usize), u64>,
     answers_on_64th_byte: u64,
     offsets_over_255: u64,
     largest_offset: usize,
@@ -57,39 +109,91 @@ impl Tally {
         *self.answers.entry((number, place)).or_insert(0) += 1;
     }
 
-    /// Notes a group that was accepted or written.
-    fn accept(&mut self, place: Place, label: &[u8], stamp: &[u8]) {
-        let labels = self.labels_accepted.entry(place).or_default();
-        labels.insert((mode_of_label(label), label.to_vec()));
-        self.meet_season(place, Season::WinterOrSummer, label, stamp);
+    /// Notes a group and its answer: 1 for one accepted or written, else 12 to
+    /// 14. Other answers say nothing of stamp or data.
+    fn note_group(&mut self, place: Place, number: u8, group: &Group) {
+        let Some(rule) = find_rule(group.mode, group.label) else {
+            return;
+        };
+        match number {
+            1 => {
+                let key = (place, group.mode, rule.label.as_str());
+                *self.labels_accepted.entry(key).or_insert(0) += 1;
+                self.meet_season(place, Season::WinterOrSummer, rule, group.stamp);
+            }
+            12 => self.meet_season(place, Season::SpaceOnly, rule, group.stamp),
+            13 | 14 => {}
+            _ => return,
+        }
+        if group.mode == Mode::Business {
+            self.meet_business(place, number, rule, group.data);
+        }
     }
 
-    /// Notes a stamp that was refused as 12.
-    fn refuse_stamp(&mut self, place: Place, label: &[u8], stamp: &[u8]) {
-        self.meet_season(place, Season::SpaceOnly, label, stamp);
-    }
-
-    /// Notes a content that was refused as 12, if the stamp in it has an HT of
-    /// its own and not only the final one.
-    fn refuse_content(&mut self, place: Place, content: &[u8]) {
-        let fields: Vec<&[u8]> = content.split(|one| *one == HORIZONTAL_TAB).collect();
-        if let [label, stamp, _data, .., _check] = fields[..] {
-            self.refuse_stamp(place, label, stamp);
+    /// Notes a content that was refused.
+    fn note_refused(&mut self, place: Place, number: u8, mode: Mode, content: &[u8]) {
+        if let (12..=14, Some(group)) = (number, Group::of_content(mode, content)) {
+            self.note_group(place, number, &group);
         }
     }
 
     /// Counts a small season of a label that has this season rule. The rest of
     /// the stamp must be right, so that the answer hangs on the season.
-    fn meet_season(&mut self, place: Place, season: Season, label: &[u8], stamp: &[u8]) {
-        let rule = find_rule(Mode::Standard, label).filter(|rule| rule.stamp == Some(season));
+    fn meet_season(&mut self, place: Place, season: Season, rule: &'static Rule, stamp: &[u8]) {
         let small = stamp.first().filter(|one| SMALL_SEASONS.contains(one));
-        let (Some(rule), Some(small)) = (rule, small) else {
+        let (Some(small), true) = (small, rule.stamp == Some(season)) else {
             return;
         };
         if stamp_is_right(Season::WinterOrSummer, stamp) {
             let key = (place, rule.label.as_str(), *small);
             *self.small_seasons.entry(key).or_insert(0) += 1;
         }
+    }
+
+    /// Counts a group of the business meter, and which alternative an accepted
+    /// one has.
+    fn meet_business(&mut self, place: Place, number: u8, rule: &'static Rule, data: &[u8]) {
+        let label = rule.label.as_str();
+        let key = (place, label, number, data.len());
+        *self.business.entry(key).or_insert(0) += 1;
+        if number != 1 {
+            return;
+        }
+        for (index, fields) in rule.alternatives.iter().enumerate() {
+            if Format::of_fields(fields).fits(data) {
+                *self.alternatives.entry((place, label, index)).or_insert(0) += 1;
+            }
+        }
+    }
+
+    /// How often a label was accepted or written in a mode.
+    pub fn times_accepted(&self, place: Place, mode: Mode, label: &'static str) -> u64 {
+        let times = self.labels_accepted.get(&(place, mode, label));
+        times.copied().unwrap_or(0)
+    }
+
+    /// How often an alternative of a label of the business meter was accepted
+    /// or written, the alternatives counted from 0.
+    pub fn times_of_alternative(&self, place: Place, label: &'static str, index: usize) -> u64 {
+        let times = self.alternatives.get(&(place, label, index));
+        times.copied().unwrap_or(0)
+    }
+
+    /// How often a label of the business meter had this answer, 1 or 12 to 14,
+    /// with data of one of these lengths.
+    pub fn times_of_business(
+        &self,
+        place: Place,
+        label: &'static str,
+        number: u8,
+        length_is: impl Fn(usize) -> bool,
+    ) -> u64 {
+        let keys = (place, label, number, 0)..=(place, label, number, usize::MAX);
+        self.business
+            .range(keys)
+            .filter(|((_, _, _, length), _)| length_is(*length))
+            .map(|(_, times)| times)
+            .sum()
     }
 
     /// How often a stamped label came with a small season: accepted or
@@ -124,42 +228,42 @@ impl Tally {
         self.answers_on_64th_byte += other.answers_on_64th_byte;
         self.offsets_over_255 += other.offsets_over_255;
         self.largest_offset = self.largest_offset.max(other.largest_offset);
-        for (key, times) in other.answers {
-            *self.answers.entry(key).or_insert(0) += times;
-        }
-        for (place, labels) in other.labels_accepted {
-            self.labels_accepted
-                .entry(place)
-                .or_default()
-                .extend(labels);
-        }
-        for (key, times) in other.small_seasons {
-            *self.small_seasons.entry(key).or_insert(0) += times;
-        }
+        add_times(&mut self.answers, other.answers);
+        add_times(&mut self.labels_accepted, other.labels_accepted);
+        add_times(&mut self.small_seasons, other.small_seasons);
+        add_times(&mut self.business, other.business);
+        add_times(&mut self.alternatives, other.alternatives);
         self.add_deeds(&other.deeds);
     }
 
     /// Notes all answers of a capture.
     pub fn note_capture(&mut self, capture: &[u8]) {
-        match answers_of_capture(capture) {
+        match open_capture(capture) {
             Err(refusal) => self.count(refusal.number(), Place::Listing),
-            Ok(answers) => {
-                for placed in &answers {
-                    self.note_listed(&capture[1..], placed);
+            Ok((mode, wire)) => {
+                for placed in &read_whole(mode, wire) {
+                    self.note_listed(mode, wire, placed);
                 }
             }
         }
     }
 
-    fn note_listed(&mut self, wire: &[u8], placed: &PlacedAnswer) {
-        self.count(placed.answer.number(), Place::Listing);
+    fn note_listed(&mut self, mode: Mode, wire: &[u8], placed: &PlacedAnswer) {
+        let number = placed.answer.number();
+        self.count(number, Place::Listing);
         match &placed.answer {
-            Answer::GroupAccepted { label, stamp, .. } => {
-                self.accept(Place::Listing, label.as_bytes(), stamp.as_bytes());
+            Answer::GroupAccepted { label, stamp, data } => {
+                let group = Group {
+                    mode,
+                    label: label.as_bytes(),
+                    stamp: stamp.as_bytes(),
+                    data: data.as_bytes(),
+                };
+                self.note_group(Place::Listing, number, &group);
             }
-            Answer::GroupRefused(Refusal::WrongStamp) => {
+            Answer::GroupRefused(_) => {
                 let content = content_closed_at(wire, placed.place);
-                self.refuse_content(Place::Listing, &content);
+                self.note_refused(Place::Listing, number, mode, &content);
             }
             _ => {}
         }
@@ -191,31 +295,56 @@ impl Tally {
                     }
                 }
             }
+            (Call::Judge { mode, content }, Reply::Judged { number, .. }) => {
+                self.count(*number, Place::Judging);
+                self.note_judged(*number, *mode, content, reply);
+            }
             (
-                Call::Judge { content, .. },
-                Reply::Judged {
-                    number,
+                Call::Write {
+                    mode,
                     label,
                     stamp,
+                    data,
                     ..
                 },
+                Reply::Written { number, .. },
             ) => {
-                self.count(*number, Place::Judging);
-                match number {
-                    1 => self.accept(Place::Judging, label, stamp),
-                    12 => self.refuse_content(Place::Judging, content),
-                    _ => {}
-                }
-            }
-            (Call::Write { label, stamp, .. }, Reply::Written { number, .. }) => {
                 self.count(*number, Place::Writing);
-                match number {
-                    0 => self.accept(Place::Writing, label, stamp),
-                    12 => self.refuse_stamp(Place::Writing, label, stamp),
-                    _ => {}
+                if let Some(mode) = Mode::from_number(*mode) {
+                    let group = Group {
+                        mode,
+                        label,
+                        stamp,
+                        data,
+                    };
+                    let number = if *number == 0 { 1 } else { *number };
+                    self.note_group(Place::Writing, number, &group);
                 }
             }
             _ => unreachable!("each call has its own kind of reply"),
+        }
+    }
+
+    fn note_judged(&mut self, number: u8, mode: u8, content: &[u8], reply: &Reply) {
+        let (
+            Some(mode),
+            Reply::Judged {
+                label, stamp, data, ..
+            },
+        ) = (Mode::from_number(mode), reply)
+        else {
+            return;
+        };
+        if number == 1 {
+            let group = Group {
+                mode,
+                label,
+                stamp,
+                data,
+            };
+            self.note_group(Place::Judging, number, &group);
+        } else {
+            self.note_refused(Place::Judging, number, mode, content);
         }
     }
 
@@ -224,13 +353,21 @@ impl Tally {
         self.count(entry.number, Place::Sheet);
         self.offsets_over_255 += u64::from(entry.offset > 255);
         self.largest_offset = self.largest_offset.max(entry.offset);
-        match entry.number {
-            1 => self.accept(Place::Sheet, &entry.texts[0], &entry.texts[1]),
-            12 => {
-                let content = content_closed_at(&line.delivered, line.taken - 1);
-                self.refuse_content(Place::Sheet, &content);
-            }
-            _ => {}
+        let Some(mode) = line.mode else {
+            return;
+        };
+        if entry.number == 1 {
+            let [label, stamp, data] = &entry.texts;
+            let group = Group {
+                mode,
+                label,
+                stamp,
+                data,
+            };
+            self.note_group(Place::Sheet, entry.number, &group);
+        } else if (12..=14).contains(&entry.number) {
+            let content = content_closed_at(&line.delivered, line.taken - 1);
+            self.note_refused(Place::Sheet, entry.number, mode, &content);
         }
     }
 
@@ -250,6 +387,7 @@ impl Tally {
         report.push_str(&self.report_of_answers());
         report.push_str(&self.report_of_labels());
         report.push_str(&self.report_of_small_seasons());
+        report.push_str(&self.report_of_business());
         report.push_str(&format!(
             "turns with an answer on the 64th byte: {}\n\
              entries at an offset over 255: {}, largest offset: {}\n",
@@ -280,22 +418,75 @@ impl Tally {
     }
 
     fn report_of_labels(&self) -> String {
+        let modes = [Mode::Standard, Mode::Historic, Mode::Business];
+        let [standard, historic, business] = modes.map(|mode| all_rules(mode).len());
         let mut report = format!(
-            "labels accepted or written, standard of {} and historic of {}:\n",
-            all_rules(Mode::Standard).len(),
-            all_rules(Mode::Historic).len()
+            "labels accepted or written, standard of {standard}, historic of {historic} and \
+             business of {business}:\n"
         );
-        for (place, name) in PLACES {
-            if let Some(labels) = self.labels_accepted.get(&place) {
-                let of_mode = |mode| labels.iter().filter(|(one, _)| *one == mode).count();
-                report.push_str(&format!(
-                    "  {name}: {} and {}\n",
-                    of_mode(Mode::Standard),
-                    of_mode(Mode::Historic)
-                ));
-            }
+        for (place, name) in GROUP_PLACES {
+            let [standard, historic, business] = modes.map(|mode| self.count_accepted(place, mode));
+            let rarest = modes.map(|mode| self.fewest_accepted(place, mode));
+            report.push_str(&format!(
+                "  {name}: {standard}, {historic} and {business}; the rarest came {} times\n",
+                rarest.iter().min().expect("there are modes")
+            ));
         }
         report
+    }
+
+    /// How often the label of a mode came that came least.
+    fn fewest_accepted(&self, place: Place, mode: Mode) -> u64 {
+        let rules = all_rules(mode).iter();
+        rules
+            .map(|rule| self.times_accepted(place, mode, &rule.label))
+            .min()
+            .expect("a mode has labels")
+    }
+
+    /// How many labels of a mode were accepted or written.
+    fn count_accepted(&self, place: Place, mode: Mode) -> usize {
+        let rules = all_rules(mode).iter();
+        rules
+            .filter(|rule| self.times_accepted(place, mode, &rule.label) > 0)
+            .count()
+    }
+
+    /// How many alternatives of the business meter's labels were accepted or
+    /// written, and how many of its labels were refused for their data.
+    fn report_of_business(&self) -> String {
+        let rules = all_rules(Mode::Business);
+        let all: usize = rules.iter().map(|rule| rule.alternatives.len()).sum();
+        let mut report = format!(
+            "alternatives of the business meter's labels accepted or written, of {all}, and labels \
+             refused as 13 and 14:\n"
+        );
+        for (place, name) in GROUP_PLACES {
+            let alternatives = self.times_of_alternatives(place);
+            let met = alternatives.iter().filter(|times| **times > 0).count();
+            let rarest = alternatives.iter().min().expect("there are alternatives");
+            let [width, fields] = [13, 14].map(|number| {
+                let refused = rules.iter().filter(|rule| {
+                    self.times_of_business(place, &rule.label, number, |_| true) > 0
+                });
+                refused.count()
+            });
+            report.push_str(&format!(
+                "  {name}: {met}, the rarest {rarest} times; {width} and {fields}\n"
+            ));
+        }
+        report
+    }
+
+    /// How often each alternative of each label of the business meter came.
+    fn times_of_alternatives(&self, place: Place) -> Vec<u64> {
+        all_rules(Mode::Business)
+            .iter()
+            .flat_map(|rule| {
+                (0..rule.alternatives.len())
+                    .map(|index| self.times_of_alternative(place, &rule.label, index))
+            })
+            .collect()
     }
 
     /// With how many stamped labels h and e were met at the places that see
@@ -309,10 +500,7 @@ impl Tally {
             with_letter.len(),
             with_space.len()
         );
-        for (place, name) in PLACES {
-            if !self.labels_accepted.contains_key(&place) {
-                continue;
-            }
+        for (place, name) in GROUP_PLACES {
             let shares = SMALL_SEASONS.map(|small| {
                 format!(
                     "{} with {} and {}",
@@ -357,11 +545,10 @@ fn labels_with(season: Season) -> Vec<&'static str> {
         .collect()
 }
 
-/// The mode whose list has the label; no label is in both lists.
-fn mode_of_label(label: &[u8]) -> Mode {
-    match find_rule(Mode::Historic, label) {
-        Some(_) => Mode::Historic,
-        None => Mode::Standard,
+/// Adds how often things came.
+fn add_times<Key: Ord>(sums: &mut BTreeMap<Key, u64>, more: BTreeMap<Key, u64>) {
+    for (key, times) in more {
+        *sums.entry(key).or_insert(0) += times;
     }
 }
 
@@ -377,10 +564,11 @@ fn content_closed_at(wire: &[u8], place: usize) -> Vec<u8> {
         .collect()
 }
 
-/// What was delivered to a line since its opening, and how much of it the
-/// rounds took: a sheet does not show the group that it refuses.
+/// The mode of a line, what was delivered to it since its opening, and how much
+/// of it the rounds took: a sheet does not show the group that it refuses.
 #[derive(Default)]
 struct FollowedLine {
+    mode: Option<Mode>,
     delivered: Vec<u8>,
     taken: usize,
 }
@@ -388,8 +576,11 @@ struct FollowedLine {
 /// Keeps the books of the lines through one more call.
 fn follow_call(lines: &mut [FollowedLine; LINES], call: &Call, reply: &Reply) {
     match (call, reply) {
-        (Call::Open { line, .. }, Reply::Opened { number: 0 }) => {
-            lines[usize::from(*line)] = FollowedLine::default();
+        (Call::Open { line, mode }, Reply::Opened { number: 0 }) => {
+            lines[usize::from(*line)] = FollowedLine {
+                mode: Mode::from_number(*mode),
+                ..FollowedLine::default()
+            };
         }
         (Call::Deliver { line, bytes }, Reply::Delivered { number: 0 }) => {
             lines[usize::from(*line)].delivered.extend(bytes);

@@ -12,7 +12,8 @@ pub const HORIZONTAL_TAB: u8 = 0x09;
 pub const LINE_FEED: u8 = 0x0A;
 /// "CR 0x0D (wire 0x8D)": it closes a group.
 pub const CARRIAGE_RETURN: u8 = 0x0D;
-/// "SP 0x20 (wire 0xA0)": the separator of historic mode.
+/// "SP 0x20 (wire 0xA0)": the separator of historic mode, and of the business
+/// meter.
 pub const SPACE: u8 = 0x20;
 
 /// "It is sound exactly when its count of ones is even."

@@ -1,8 +1,9 @@
-//! Right groups: document 01's labels, with data and stamps that are made up.
+//! Right groups: the documents' labels, with data and stamps that are made up.
 
+use super::business;
 use super::dice::Dice;
 use crate::plain::group::check_character;
-use crate::plain::table::{self, Kind, Mode, Season};
+use crate::plain::table::{self, Kind, Mode, Rule, Season};
 use crate::plain::wire::{control, to_wire};
 
 const STANDARD_LABELS: &str =
@@ -18,11 +19,21 @@ const HISTORIC_LABELS: &str =
     BBRHPJR PEJP PTEC DEMAIN IINST IINST1 IINST2 IINST3 ADPS ADIR1 ADIR2 ADIR3 IMAX IMAX1 \
     IMAX2 IMAX3 PMAX PAPP HHPHC MOTDETAT PPOT";
 
+/// In the order of document 003's Tableau 10.
+const BUSINESS_LABELS: &str =
+    "TRAME ADS MESURES1 DATE EA_s ER+_s ER-_s EAPP_s EA_i ER+_i ER-_i EAPP_i PTCOUR1 TARIFDYN \
+    ETATDYN1 PREAVIS1 TDYN1CD TDYN1CF TDYN1FD TDYN1FF MODE CONFIG DATEPA1 PA1_s PA1_i DATEPA2 \
+    PA2_s PA2_i DATEPA3 PA3_s PA3_i DATEPA4 PA4_s PA4_i DATEPA5 PA5_s PA5_i DATEPA6 PA6_s PA6_i \
+    DebP EAP_s EAP_i ER+P_s ER-P_s ER+P_i ER-P_i DebP-1 FinP-1 EaP-1_s EaP-1_i ER+P-1_s \
+    ER-P-1_s ER+P-1_i ER-P-1_i PS PREAVIS PA1MN PMAX_s PMAX_i TGPHI_s TGPHI_i MESURES2 PTCOUR2 \
+    ETATDYN2 PREAVIS2 TDYN2CD TDYN2CF TDYN2FD TDYN2FF DebP_2 EaP_s2 DebP-1_2 FinP-1_2 EaP-1_s2";
+
 /// The labels of a mode.
 pub fn labels(mode: Mode) -> Vec<&'static str> {
     match mode {
         Mode::Historic => HISTORIC_LABELS.split(' ').collect(),
         Mode::Standard => STANDARD_LABELS.split(' ').collect(),
+        Mode::Business => BUSINESS_LABELS.split(' ').collect(),
     }
 }
 
@@ -30,8 +41,23 @@ pub fn labels(mode: Mode) -> Vec<&'static str> {
 pub fn right_content(mode: Mode, label: &str, dice: &mut Dice) -> Vec<u8> {
     let rule = table::find(mode, label.as_bytes()).expect("a label of the mode's list");
     let stamp = rule.season.map(|season| stamp(season, dice));
-    let data: Vec<u8> = (0..rule.width).map(|_| of_kind(rule.kind, dice)).collect();
+    let data = right_data(rule, dice);
     content(mode, label.as_bytes(), stamp.as_deref(), &data)
+}
+
+fn right_data(rule: Rule, dice: &mut Dice) -> Vec<u8> {
+    let drawn: fn(&mut Dice) -> u8 = match rule.kind {
+        Kind::Decimal => |dice| dice.character(b'0', b'9'),
+        Kind::Hexadecimal => |dice| dice.pick(b"0123456789ABCDEF"),
+        Kind::Text => |dice| dice.character(b' ', b'~'),
+        fields => return business::right_fields(fields, dice),
+    };
+    let (smallest, largest) = rule.lengths;
+    let length = match smallest == largest {
+        true => smallest, // nothing to draw
+        false => smallest + dice.below(u64::from(largest - smallest) + 1) as u8,
+    };
+    (0..length).map(|_| drawn(dice)).collect()
 }
 
 /// The content of these fields, right or not, with its right check character.
@@ -54,14 +80,6 @@ pub fn wire_of(content: &[u8]) -> Vec<u8> {
     wire.extend(content.iter().map(|&character| to_wire(character)));
     wire.push(control::CARRIAGE_RETURN);
     wire
-}
-
-fn of_kind(kind: Kind, dice: &mut Dice) -> u8 {
-    match kind {
-        Kind::Decimal => dice.character(b'0', b'9'),
-        Kind::Hexadecimal => dice.pick(b"0123456789ABCDEF"),
-        Kind::Text => dice.character(b' ', b'~'),
-    }
 }
 
 /// A right stamp. No month has fewer than 28 days, and all days are as good as another here.

@@ -3,6 +3,7 @@
 //! A shorter capture is the front of a longer one of its kind, so that what a run costs over two lengths tells what
 //! the bytes between them cost.
 
+mod business;
 mod dice;
 pub mod groups;
 mod noise;
@@ -17,8 +18,12 @@ pub enum Kind {
     Standard,
     /// The same in historic mode.
     Historic,
+    /// The same of a business meter.
+    Business,
     /// Standard frames whose groups and bytes came to harm.
     Noisy,
+    /// The same of a business meter. Nothing is measured on it: it shows that both readers refuse alike.
+    NoisyBusiness,
 }
 
 impl Kind {
@@ -26,7 +31,9 @@ impl Kind {
         match name {
             "standard" => Some(Kind::Standard),
             "historic" => Some(Kind::Historic),
+            "business" => Some(Kind::Business),
             "noisy" => Some(Kind::Noisy),
+            "noisy-business" => Some(Kind::NoisyBusiness),
             _ => None,
         }
     }
@@ -38,13 +45,16 @@ pub fn make(kind: Kind, length: usize) -> Vec<u8> {
     let letter = match kind {
         Kind::Historic => b'H',
         Kind::Standard | Kind::Noisy => b'S',
+        Kind::Business | Kind::NoisyBusiness => b'P',
     };
     let mut capture = vec![letter];
     while capture.len() < 1 + length {
         let frame = match kind {
             Kind::Standard => sound_frame(Mode::Standard, &mut dice),
             Kind::Historic => sound_frame(Mode::Historic, &mut dice),
-            Kind::Noisy => noise::frame(&mut dice),
+            Kind::Business => sound_frame(Mode::Business, &mut dice),
+            Kind::Noisy => noise::frame(Mode::Standard, &mut dice),
+            Kind::NoisyBusiness => noise::frame(Mode::Business, &mut dice),
         };
         capture.extend(frame);
     }

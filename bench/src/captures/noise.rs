@@ -1,5 +1,6 @@
 //! Frames that came to harm: groups that are wrong as they were sent, and bytes that were hit on their way.
 
+use super::business;
 use super::dice::Dice;
 use super::groups::{content, labels, right_content, wire_of};
 use crate::plain::table::Mode;
@@ -7,13 +8,16 @@ use crate::plain::wire::control;
 
 const GROUPS: usize = 40;
 
-pub fn frame(dice: &mut Dice) -> Vec<u8> {
-    let labels = labels(Mode::Standard);
+pub fn frame(mode: Mode, dice: &mut Dice) -> Vec<u8> {
+    let labels = labels(mode);
     let mut frame = vec![control::START_OF_TEXT];
     for _ in 0..GROUPS {
-        let right = right_content(Mode::Standard, dice.pick(&labels), dice);
+        let right = right_content(mode, dice.pick(&labels), dice);
         let group = if dice.one_in(6) {
-            spoilt_content(right, dice)
+            match mode {
+                Mode::Business => business::spoilt_content(right, dice),
+                Mode::Historic | Mode::Standard => spoilt_content(right, dice),
+            }
         } else {
             right
         };
@@ -35,15 +39,18 @@ fn spoilt_content(right: Vec<u8>, dice: &mut Dice) -> Vec<u8> {
     match dice.below(7) {
         0 => content(mode, b"PJOURF+1", None, &[b'7'; 140]),
         1 => right[..right.len() - 2].to_vec(),
-        2 => {
-            let (check, front) = right.split_last().expect("a content is not empty");
-            [front, &[32 + (check - 31) % 64]].concat()
-        }
+        2 => with_next_check(right),
         3 => content(mode, b"EASF11", None, b"000012345"),
         4 => content(mode, b"SMAXSN", Some(b"H090229000000"), b"01200"),
         5 => content(mode, b"EAST", None, b"0000123456"),
         _ => content(mode, b"STGE", None, b"003A0o01"),
     }
+}
+
+/// The content with the check character behind its own.
+pub fn with_next_check(right: Vec<u8>) -> Vec<u8> {
+    let (check, front) = right.split_last().expect("a content is not empty");
+    [front, &[32 + (check - 31) % 64]].concat()
 }
 
 /// A byte that is hit: mostly one bit of it, at times all of it, and rarely so that a control character comes in.

@@ -1,5 +1,6 @@
 //! One group, judged: document 01's tests in document 01's order.
 
+use super::business;
 use super::stamp::{self, STAMP_LENGTH};
 use super::table::{self, Kind, Mode};
 
@@ -59,7 +60,8 @@ pub fn judge(mode: Mode, content: &[u8]) -> Result<Fields<'_>, Notice> {
             _ => return Err(Notice::StampWrong),
         },
     };
-    if data.len() != rule.width {
+    let (smallest, largest) = rule.lengths;
+    if !(usize::from(smallest)..=usize::from(largest)).contains(&data.len()) {
         return Err(Notice::WidthWrong);
     }
     if !all_of_kind(rule.kind, data) {
@@ -72,7 +74,7 @@ pub fn judge(mode: Mode, content: &[u8]) -> Result<Fields<'_>, Notice> {
 pub fn check_character(mode: Mode, body: &[u8]) -> u8 {
     let sum: u32 = body.iter().map(|&one| u32::from(one)).sum();
     let counted = match mode {
-        Mode::Historic => sum,
+        Mode::Historic | Mode::Business => sum,
         Mode::Standard => sum + u32::from(mode.separator()),
     };
     (counted % 64) as u8 + 32
@@ -80,10 +82,19 @@ pub fn check_character(mode: Mode, body: &[u8]) -> u8 {
 
 fn all_of_kind(kind: Kind, data: &[u8]) -> bool {
     match kind {
-        Kind::Decimal => all(data, |one| one.is_ascii_digit()),
+        Kind::Decimal => all_digits(data),
         Kind::Hexadecimal => all(data, |one| matches!(one, b'0'..=b'9' | b'A'..=b'F')),
-        Kind::Text => all(data, |one| matches!(one, b' '..=b'~')),
+        Kind::Text => all_text(data),
+        _ => business::has_fields(kind, data),
     }
+}
+
+pub fn all_digits(data: &[u8]) -> bool {
+    all(data, |one| one.is_ascii_digit())
+}
+
+pub fn all_text(data: &[u8]) -> bool {
+    all(data, |one| matches!(one, b' '..=b'~'))
 }
 
 /// Whether all are right: eight are tested at once, and what is left one by one.

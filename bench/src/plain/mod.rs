@@ -1,10 +1,12 @@
-//! The plain reader: document 01 as one writes it in Rust for speed, with state that is changed in place.
+//! The plain reader: document 01, and the business meter of document 02, M-100, as one writes them in Rust for speed, with
+//! state that is changed in place.
 //!
 //! It is what the proved reader is measured against, so it is neither slowed down nor driven to the utmost: safe code,
 //! and no tables but those that the compiler makes of a `match`. What makes the proved reader quick it has too, where that
 //! helps it: eight characters tested and laid at once, the kind of data by eights, the digits of a stamp at once, LF and CR
 //! looked for first. One walk for sum and separator it has not: two are quicker here.
 
+pub mod business;
 pub mod group;
 pub mod line;
 mod stamp;

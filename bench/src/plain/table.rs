@@ -1,12 +1,14 @@
 //! The modes, and what each label asks of stamp and data. A label is found by a `match`, of which the compiler makes
 //! comparisons in a tree.
 
+use super::business;
 use super::wire::{HORIZONTAL_TAB, SPACE};
 
 #[derive(Clone, Copy, PartialEq, Eq)]
 pub enum Mode {
-    Historic,
-    Standard,
+    Historic = 0,
+    Standard = 1,
+    Business = 2,
 }
 
 impl Mode {
@@ -14,8 +16,13 @@ impl Mode {
         match number {
             0 => Some(Mode::Historic),
             1 => Some(Mode::Standard),
+            2 => Some(Mode::Business),
             _ => None,
         }
+    }
+
+    pub fn number(self) -> u32 {
+        self as u32
     }
 
     /// The mode that the first byte of a capture names.
@@ -23,23 +30,55 @@ impl Mode {
         match letter {
             b'H' => Some(Mode::Historic),
             b'S' => Some(Mode::Standard),
+            b'P' => Some(Mode::Business),
             _ => None,
         }
     }
 
     pub fn separator(self) -> u8 {
         match self {
-            Mode::Historic => SPACE,
+            Mode::Historic | Mode::Business => SPACE,
             Mode::Standard => HORIZONTAL_TAB,
         }
     }
 }
 
+/// What the data are made of: a row of one kind of document 01, or the fields of one of the business meter's.
 #[derive(Clone, Copy, PartialEq, Eq)]
 pub enum Kind {
     Decimal,
     Hexadecimal,
     Text,
+    /// TEST
+    Test,
+    /// CONTROLE
+    Control,
+    /// CONSO or PROD
+    Configuration,
+    /// ACTIF or INACTIF
+    Signal,
+    /// DEP, with a space behind it or not
+    Overload,
+    /// TD- and three characters
+    Notice,
+    /// JJ/MM/AA HH:MM:SS
+    Date,
+    /// The same, a hyphen and three characters
+    DatedPeriod,
+    /// One to seven digits and Wh; the next four have another unit
+    WattHours,
+    VarHours,
+    VoltAmpereHours,
+    KilowattHours,
+    KilovarHours,
+    /// One to five digits and kW
+    Power,
+    /// The same, with a T before the unit where the point was cut short
+    PowerPoint,
+    /// One to five digits and kW or kVA
+    ContractPower,
+    /// One to five digits, or a hyphen and one to four; a comma or a point; two digits
+    Tangent,
 }
 
 /// What stands first in a stamp: H, E, h or e, or a space.
@@ -52,30 +91,31 @@ pub enum Season {
 #[derive(Clone, Copy)]
 pub struct Rule {
     pub kind: Kind,
-    pub width: usize,
+    /// The smallest and the largest length of the data.
+    pub lengths: (u8, u8),
     pub season: Option<Season>,
 }
 
-const fn decimal(width: usize) -> Rule {
-    Rule {
-        kind: Kind::Decimal,
-        width,
-        season: None,
-    }
-}
-
-const fn text(width: usize) -> Rule {
-    Rule {
-        kind: Kind::Text,
-        width,
-        season: None,
-    }
-}
-
-const fn stamped(season: Season, kind: Kind, width: usize) -> Rule {
+const fn unstamped(kind: Kind, width: u8) -> Rule {
     Rule {
         kind,
-        width,
+        lengths: (width, width),
+        season: None,
+    }
+}
+
+const fn decimal(width: u8) -> Rule {
+    unstamped(Kind::Decimal, width)
+}
+
+const fn text(width: u8) -> Rule {
+    unstamped(Kind::Text, width)
+}
+
+const fn stamped(season: Season, kind: Kind, width: u8) -> Rule {
+    Rule {
+        kind,
+        lengths: (width, width),
         season: Some(season),
     }
 }
@@ -84,6 +124,7 @@ pub fn find(mode: Mode, label: &[u8]) -> Option<Rule> {
     match mode {
         Mode::Historic => find_historic(label),
         Mode::Standard => find_standard(label),
+        Mode::Business => business::find(label),
     }
 }
 
@@ -123,11 +164,7 @@ fn find_standard(label: &[u8]) -> Option<Rule> {
         | b"SMAXSN1-1" | b"SMAXSN2-1" | b"SMAXSN3-1" | b"SMAXIN-1" | b"CCASN" | b"CCASN-1"
         | b"CCAIN" | b"CCAIN-1" => stamped(Season::Letter, Kind::Decimal, 5),
         b"UMOY1" | b"UMOY2" | b"UMOY3" => stamped(Season::Letter, Kind::Decimal, 3),
-        b"STGE" => Rule {
-            kind: Kind::Hexadecimal,
-            width: 8,
-            season: None,
-        },
+        b"STGE" => unstamped(Kind::Hexadecimal, 8),
         b"DPM1" | b"DPM2" | b"DPM3" | b"FPM1" | b"FPM2" | b"FPM3" => {
             stamped(Season::Space, Kind::Decimal, 2)
         }

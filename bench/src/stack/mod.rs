@@ -26,7 +26,7 @@ const CAPTURE: usize = 200_000;
 const DELIVERIES: [usize; 3] = [1, worst::TURN, INBOX];
 /// LF, the longest content and CR.
 const LONGEST_GROUP: usize = 130;
-const MODE_UNKNOWN: u32 = 2;
+const MODE_UNKNOWN: u32 = 3;
 
 /// The names of the calls, each with the most bytes that it took.
 pub fn table() -> [(&'static str, usize); 5] {
@@ -57,6 +57,7 @@ fn make_all(calls: &mut Calls) {
     for (kind, mode) in [
         (Kind::Standard, Mode::Standard),
         (Kind::Historic, Mode::Historic),
+        (Kind::Business, Mode::Business),
         (Kind::Noisy, Mode::Standard),
     ] {
         let capture = captures::make(kind, CAPTURE);
@@ -68,10 +69,6 @@ fn make_all(calls: &mut Calls) {
             judge_and_write(calls, mode, group);
         }
     }
-}
-
-fn number_of(mode: Mode) -> u32 {
-    u32::from(mode == Mode::Standard)
 }
 
 fn make_worst_round(calls: &mut Calls) {
@@ -87,10 +84,10 @@ fn read(calls: &mut Calls, mode: Mode, wire: &[u8], delivery: usize) {
     let mut station = Station::default();
     let (mut sheet, mut counts) = ([0; SHEET], [0; LINES]);
     calls.deliver(&mut station, 0, wire); // to a line that is closed
-    calls.open(&mut station, LINES as u32, number_of(mode));
+    calls.open(&mut station, LINES as u32, mode.number());
     calls.open(&mut station, 0, MODE_UNKNOWN);
     for line in 0..LINES {
-        calls.open(&mut station, line as u32, number_of(mode));
+        calls.open(&mut station, line as u32, mode.number());
     }
     let mut sources: Vec<_> = (0..LINES)
         .map(|line| {
@@ -124,7 +121,7 @@ fn judge_and_write(calls: &mut Calls, mode: Mode, group: &[u8]) {
         .map(|&byte| character_of(byte))
         .collect();
     let mut stretches = [0; 6];
-    if calls.judge(number_of(mode), &came, &mut stretches) != 1 {
+    if calls.judge(mode.number(), &came, &mut stretches) != 1 {
         return;
     }
     let [label, stamp, data] = [0, 2, 4].map(|at| &came[stretches[at]..][..stretches[at + 1]]);
@@ -143,7 +140,7 @@ fn judge_and_write(calls: &mut Calls, mode: Mode, group: &[u8]) {
         let [label, stamp, data] = fields;
         let stamp = (!stamp.is_empty()).then_some(stamp);
         let mut content = content(mode, label, stamp, data);
-        for number in [0, 1, MODE_UNKNOWN] {
+        for number in [0, 1, 2, MODE_UNKNOWN] {
             calls.judge(number, &content, &mut stretches);
             calls.write(number, fields, &mut buffer);
             calls.write(number, fields, &mut buffer[..1]);
@@ -151,6 +148,6 @@ fn judge_and_write(calls: &mut Calls, mode: Mode, group: &[u8]) {
         if let Some(check) = content.last_mut() {
             *check ^= 1;
         }
-        calls.judge(number_of(mode), &content, &mut stretches);
+        calls.judge(mode.number(), &content, &mut stretches);
     }
 }

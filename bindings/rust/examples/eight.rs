@@ -3,9 +3,9 @@
 //!
 //! usage: eight FILE.. (the first is line 0, the second line 1, and so on)
 //!
-//! A capture is H (historic) or S (standard), then wire bytes. Each answer is a line of output: the number of the line,
-//! the number of the answer and, where that is 1, label, stamp or `-`, and data, each after a space. A capture that is
-//! empty, or begins otherwise, has the answer 20. Exit status 0; 1 where a file can't be read; 2 for bad usage.
+//! A capture is H (historic), S (standard) or P (business), then wire bytes. Each answer is a line of output: the number
+//! of the line, the number of the answer and, where that is 1, label, stamp or `-`, and data, each after a space. A capture
+//! that is empty, or begins otherwise, has the answer 20. Exit status 0; 1 where a file can't be read; 2 for bad usage.
 
 #![forbid(unsafe_code)]
 
@@ -47,6 +47,7 @@ impl Source {
         let mode = match self.waiting.as_slice() {
             b"H" => Some(Mode::Historic),
             b"S" => Some(Mode::Standard),
+            b"P" => Some(Mode::Business),
             _ => None,
         };
         self.waiting.clear();

@@ -17,9 +17,9 @@ pub struct Group<'a> {
     pub label: &'a [u8],
     /// The stamp, as it came: the season, then YYMMDDhhmmss; empty where the label has none. The season is `H` in winter and
     /// `E` in summer, and `h` or `e` from a clock in degraded mode, which lost its time and was not set again yet. For DPM1
-    /// to DPM3 and FPM1 to FPM3 it is a space.
+    /// to DPM3 and FPM1 to FPM3 it is a space. In [`Mode::Business`] it is always empty.
     pub stamp: &'a [u8],
-    /// The data.
+    /// The data, with every space that belongs to them. In [`Mode::Business`] a date is data: DD/MM/YY hh:mm:ss.
     pub data: &'a [u8],
 }
 

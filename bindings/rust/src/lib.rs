@@ -6,7 +6,8 @@
 //! else touches. Here references, slices and `&mut self` stand for that: a caller owes nothing and needs no `unsafe`.
 //! The `unsafe` of this crate is in one module, `boundary`. The crate itself is not proved: it is small, and tested.
 //!
-//! "Document 01" is the customer's scope page. Its numbers are the numbers of [`Answer`], [`Notice`] and [`Refusal`].
+//! "Document 01" is the customer's scope page, and document 02 has the customer's later requests. Document 01's numbers are
+//! the numbers of [`Answer`], [`Notice`] and [`Refusal`].
 //!
 //! # The way to use it
 //!
@@ -41,10 +42,11 @@
 //! Eight data bits, no parity, one stop bit, and raw, so that nothing is translated. The top bit of each byte is the
 //! meter's own parity bit, and is delivered with it. A port that is set to seven bits and even parity strips it: STX comes
 //! as 0x02 instead of 0x82, no frame ever begins, and there is no answer at all. The speed is 9600 baud in standard mode
-//! (document 001, 5.3.5) and 1200 in historic mode (document 003, 1.3.1.1; a SAPHIR or a PME-PMI may be set otherwise). On
-//! Linux: `stty -F /dev/ttyUSB0 raw -echo 9600 cs8 -parenb -cstopb`, or with 1200. In the flags of termios: CS8 and CREAD
-//! set, and PARENB, CSTOPB, INPCK, ISTRIP, IGNPAR, PARMRK, ICRNL, INLCR, IGNCR, IXON, IXOFF, ICANON, ECHO, ISIG, IEXTEN and
-//! OPOST not set.
+//! (document 001, 5.3.5) and 1200 in historic mode (document 003, 1.3.1.1; but a SAPHIR may be set to 9600). A PME-PMI,
+//! business mode, is set to 1200, 2400, 4800, 9600 or 19200: to 1200 where nobody chose (document 003, 1.4.1), mostly to
+//! 9600 (2.9.1); whoever listens has to try. On Linux: `stty -F /dev/ttyUSB0 raw -echo 9600 cs8 -parenb -cstopb`, or with
+//! another speed. In the flags of termios: CS8 and CREAD set, and PARENB, CSTOPB, INPCK, ISTRIP, IGNPAR, PARMRK, ICRNL,
+//! INLCR, IGNCR, IXON, IXOFF, ICANON, ECHO, ISIG, IEXTEN and OPOST not set.
 //!
 //! # The archive
 //!

@@ -23,8 +23,8 @@ const WORDS: [&str; 21] = [
     "line number 8 or more",
     "delivery to a closed line",
     "sheet under 1,080 bytes",
-    "mode not 0 or 1",
-    "capture empty or not begun by H or S",
+    "mode not 0 to 2",
+    "capture empty or not begun by H, S or P",
 ];
 
 /// What a number of document 01's table means, in English; 20 is the number of a listing.
@@ -45,7 +45,7 @@ fn say(number: u32, to: &mut fmt::Formatter<'_>) -> fmt::Result {
     write!(to, "{} ({number})", WORDS[number as usize])
 }
 
-/// How a meter speaks. The number is document 01's.
+/// How a meter speaks. The number is document 01's, and for the business meter document 02's.
 #[derive(Clone, Copy, Debug, PartialEq, Eq, Hash)]
 #[repr(u32)]
 pub enum Mode {
@@ -53,10 +53,12 @@ pub enum Mode {
     Historic = 0,
     /// Mode 1, separator HT.
     Standard = 1,
+    /// Mode 2, separator SP: the PME-PMI, the business meter of document 02, M-100. It has no stamps: dates are data.
+    Business = 2,
 }
 
 impl Mode {
-    /// Document 01's number of the mode.
+    /// The number of the mode, 0 to 2.
     pub const fn number(self) -> u32 {
         self as u32
     }
@@ -66,6 +68,7 @@ impl Mode {
         Some(match number {
             0 => Mode::Historic,
             1 => Mode::Standard,
+            2 => Mode::Business,
             _ => return None,
         })
     }
@@ -106,9 +109,11 @@ pub enum Notice {
     LabelUnknown = 11,
     /// The group's stamp is not right.
     StampWrong = 12,
-    /// The group's data are not of the label's width.
+    /// The group's data are not of the label's width; in [`Mode::Business`], shorter than its smallest or longer than its
+    /// largest.
     WidthWrong = 13,
-    /// A character of the group's data is not of the label's kind.
+    /// A character of the group's data is not of the label's kind; in [`Mode::Business`], any other data that do not fit the
+    /// label's fields.
     KindWrong = 14,
 }
 
@@ -159,11 +164,13 @@ pub enum Refusal {
     CheckWrong = 10,
     /// The label is not in the mode's list.
     LabelUnknown = 11,
-    /// The stamp is not right; in writing also where it is missing, or given to a label that has none.
+    /// The stamp is not right; in writing also where it is missing, or given to a label that has none, as none of
+    /// [`Mode::Business`] has.
     StampWrong = 12,
-    /// The data are not of the label's width.
+    /// The data are not of the label's width; in [`Mode::Business`], shorter than its smallest or longer than its largest.
     WidthWrong = 13,
-    /// A character of the data is not of the label's kind.
+    /// A character of the data is not of the label's kind; in [`Mode::Business`], any other data that do not fit the label's
+    /// fields.
     KindWrong = 14,
     /// The inbox, or the buffer to write to, has no room for all bytes.
     NoRoom = 15,
@@ -176,7 +183,7 @@ pub enum Refusal {
     ///
     /// [`Round`]: crate::Round
     SheetShort = 18,
-    /// The mode is neither 0 nor 1. Only what takes a mode's raw number gives it.
+    /// The mode is not 0 to 2. Only what takes a mode's raw number gives it.
     ModeUnknown = 19,
 }
 

@@ -65,8 +65,8 @@ impl Station {
     /// may give one byte a round, and one round for each delivery leaves answers behind and fills the inbox. Where bytes
     /// wait on a line its turn takes at least one, so all 256 that can wait are taken within 256 rounds, and the 257th at
     /// the latest is idle. More closely: n bytes that complete k answers are taken within n/64, rounded up, plus k rounds.
-    /// With rounds by the clock instead, as many are needed as bytes can come on one line: 960 a second at 9600 baud, 120
-    /// at 1200.
+    /// With rounds by the clock instead, as many are needed as bytes can come on one line: 1,920 a second at 19200 baud, 960
+    /// at 9600, 120 at 1200.
     ///
     /// It can't be refused, as the sheet that is lent for it always has the 1,080 bytes that it needs.
     pub fn round(&mut self) -> Round {

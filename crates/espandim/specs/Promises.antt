@@ -67,8 +67,8 @@ module _ (s : Station) (line : ℕ) where
       refusals.delivers-called s line bytes .1
       ∙ ap (λ a. station.numberOf (called s a .reply)) (refusals.delivering-no-line s line bytes h)
 
-  -- "19: mode not 0 or 1"
-  pub open-no-mode : (mode : ℕ) → line < 8 → 2 ≤ mode → gets s (opens line mode) .number ≡ 19
+  -- "19 now means a mode not 0 to 2"
+  pub open-no-mode : (mode : ℕ) → line < 8 → 3 ≤ mode → gets s (opens line mode) .number ≡ 19
   open-no-mode mode h k =
       refusals.opens-called s line mode .1
       ∙ ap (λ a. station.numberOf (called s a .reply)) (refusals.opening-no-mode s line mode h k)
@@ -79,7 +79,7 @@ pub round-no-sheet : (s : Station) (sheet : List ℕ) → length sheet < smalles
 round-no-sheet s sheet h = rw (refusals.serves-round s sheet .1, refusals.turns-no-sheet s sheet h)
 
 -- "Refused judging shows three empty stretches."
-pub judge-no-mode : (mode : ℕ) (content : List ℕ) → 2 ≤ mode
+pub judge-no-mode : (mode : ℕ) (content : List ℕ) → 3 ≤ mode
     → (numberOf (shown (judging mode content) .verdict) ≡ 19)
     × (stretchesOf (shown (judging mode content)) ≡ 0 ∷ 0 ∷ 0 ∷ 0 ∷ 0 ∷ 0 ∷ [])
 judge-no-mode mode content h =
@@ -87,7 +87,7 @@ judge-no-mode mode content h =
     (ap (λ (j : Judged). numberOf (j .verdict)) e, ap stretchesOf e)
 
 -- "Every refused writing changes no lent byte."
-pub write-no-mode : (mode : ℕ) (g : Group) (buffer : List ℕ) (room : ℕ) → 2 ≤ mode
+pub write-no-mode : (mode : ℕ) (g : Group) (buffer : List ℕ) (room : ℕ) → 3 ≤ mode
     → (numberOfWriting (told (writing mode g room) .outcome) ≡ 19)
     × (told (writing mode g room) .count ≡ 0)
     × (left (writing mode g room) buffer ≡ buffer)

@@ -13,6 +13,7 @@ use borrow.Author.Tests.{eq-eqb, le-leb, lt-leb}
 use Rattle.characters.specs.Answers.{Answer, refused, given, need, found, pick}
 use Rattle.characters.specs.Wire.{wireByteOf, LF, CR}
 use Rattle.groups.specs.Modes.{modeOf, separator}
+use Rattle.groups.specs.Formats.{Rule}
 use Rattle.groups.specs.Table.{rows, lookup}
 use Rattle.groups.specs.Stamps.{isStamped, stampAs}
 use Rattle.groups.specs.Fields.{checked, longest}
@@ -28,7 +29,6 @@ use Rattle.groups.specs.declared.Refusal.{Refusal}
 use Rattle.groups.specs.declared.Refusal.the-variants.{LabelUnknown, NoRoom, ModeUnknown}
 use Rattle.groups.specs.declared.Outcome.the-variants.{Done}
 use Rattle.groups.specs.declared.table.Mark.{Mark}
-use Rattle.groups.specs.declared.table.Rule.{Rule}
 use Rattle.groups.specs.declared.Written.{Written}
 
 -- ---- Bytes set one after the other
@@ -179,6 +179,13 @@ module _ (m : Mode) (g : Group) (room : ℕ) where
   write-done r f h = rw (checked-right r (g .stamp) (g .«data») (content m (g .label) (body m (isStamped (r .mark)) (g .stamp) (g .«data»))) f, le-leb _ _ h)
 
 -- ---- What was written, under another name
+
+-- the group of a mark that is another's
+pub laid-marked : (m : Mode) (l s d b : List ℕ) {j k : Mark} {n : ℕ} {b' : List ℕ} → j ≡ k
+    → Laid b 0 (onTheWire (content m l (body m (isStamped j) s d))) n b'
+    → Laid b 0 (onTheWire (content m l (body m (isStamped k) s d))) n b'
+laid-marked m l s d b {n = n} {b' = b'} e h =
+    subst (λ (k : Mark). Laid b 0 (onTheWire (content m l (body m (isStamped k) s d))) n b') e h
 
 pub wrote-as : (b : List ℕ) (w v : Answer Refusal (List ℕ)) {r : Written} {b' : List ℕ} → w ≡ v → Wrote v b r b'
     → Wrote w b r b'

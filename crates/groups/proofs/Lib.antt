@@ -2,4 +2,5 @@
 pub mod Views
 pub mod Walks
 pub mod Search
+pub mod Pictures
 pub mod Laying

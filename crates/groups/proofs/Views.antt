@@ -6,12 +6,14 @@ use mathlib.Core.List.{List}
 use lib.ListN.{length}
 use Prim.Native.Nat.{ℕ}
 use Rattle.characters.specs.Answers.{Answer, refused, given, need, found}
+use Rattle.groups.specs.Formats.{Rule}
 use Rattle.groups.specs.Fields.{checked, widthRight, kindRight}
 use Rattle.groups.specs.Stamps.{stampRight}
 use Rattle.groups.specs.Modes.{modeOf, isKnown}
 use Rattle.groups.specs.Groups.{read}
 use Rattle.groups.specs.Judging.{judging}
-use Rattle.groups.specs.Inside.{chosenOf, foundOf, verdictOf, RightFields}
+use Rattle.groups.specs.Stored.{ruleOf, ruleFound}
+use Rattle.groups.specs.Inside.{chosenOf, verdictOf, RightFields}
 use Rattle.groups.specs.Laws.Tests.{zero-is-not-one}
 use Rattle.groups.specs.Laws.Groups.{checked-given, checked-right}
 use Rattle.groups.specs.declared.Mode.{Mode}
@@ -20,8 +22,9 @@ use Rattle.groups.specs.declared.Refusal.the-variants.{StampWrong, Width
 use Rattle.groups.specs.declared.Verdict.{Verdict}
 use Rattle.groups.specs.declared.Verdict.the-variants.{Accepted, Refused}
 use Rattle.groups.specs.declared.modes.Chosen.the-variants.{Known, Unknown}
+use Rattle.groups.specs.declared.find.Found.{Found}
 use Rattle.groups.specs.declared.find.Found.the-variants.{Listed, Unlisted}
-use Rattle.groups.specs.declared.table.Rule.{Rule}
+use Rattle.groups.specs.declared.table.Rule.{Rule as StoredRule}
 
 pub chosen-none : (o : Option Mode) → chosenOf o ≡ Unknown → o ≡ none
 chosen-none none e = refl
@@ -31,13 +34,11 @@ pub chosen-some : (o : Option Mode) (m : Mode) → chosenOf o ≡ Known m → o 
 chosen-some none m e = let z : _≡_ {A = ℕ} 0 1 = cc in absurd (zero-is-not-one z)
 chosen-some (some n) m e = cc
 
-pub found-none : (o : Option Rule) → foundOf o ≡ Unlisted → o ≡ none
-found-none none e = refl
-found-none (some r) e = let z : _≡_ {A = ℕ} 0 1 = cc in absurd (zero-is-not-one z)
+pub found-none : {f : Found} {o : Option Rule} → ruleFound f ≡ o → f ≡ Unlisted → o ≡ none
+found-none e u = sym e ∙ ap ruleFound u
 
-pub found-some : (o : Option Rule) (r : Rule) → foundOf o ≡ Listed r → o ≡ some r
-found-some none r e = let z : _≡_ {A = ℕ} 0 1 = cc in absurd (zero-is-not-one z)
-found-some (some q) r e = cc
+pub found-some : {f : Found} {o : Option Rule} (r : StoredRule) → ruleFound f ≡ o → f ≡ Listed r → o ≡ some (ruleOf r)
+found-some r e u = sym e ∙ ap ruleFound u
 
 -- a value that is accepted is given; a refusal is the same whatever value was asked for
 verdict-given : {A : Type 0} (a : Answer Refusal A) → verdictOf a ≡ Accepted → (b : A) × (a ≡ given b)

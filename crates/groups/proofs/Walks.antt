@@ -14,6 +14,7 @@ use Rattle.characters.specs.Answers.{every, every-at, from-true, is-true, pick}
 use Rattle.characters.specs.Passing.{Pass}
 use Rattle.groups.specs.Kinds.{ofKind}
 use Rattle.groups.specs.Modes.{separator, countedAtEnd}
+use Rattle.groups.specs.Formats.{Rule}
 use Rattle.groups.specs.Table.{same}
 use Rattle.groups.specs.Groups.{total, check}
 use Rattle.groups.specs.Conditions.{firstAt}
@@ -22,8 +23,7 @@ use Rattle.groups.specs.Laws.Conditions.{front-behind}
 use Rattle.groups.specs.declared.Mode.{Mode}
 use Rattle.groups.specs.declared.reading.Parted.{Parted}
 use Rattle.groups.specs.declared.table.Kind.the-variants.{Digits}
-use Rattle.groups.specs.declared.table.Rule.{Rule}
-use Rattle.groups.specs.declared.Mode.the-variants.{Historic, Standard}
+use Rattle.groups.specs.declared.Mode.the-variants.{Historic, Standard, Business}
 
 -- a part that runs to the end
 pub to-end : {A : Type 0} (a : ℕ) (s : List A) → take (length s - a) (drop a s) ≡ drop a s
@@ -170,6 +170,7 @@ split-at m rule b h e = subst (λ (p : Parted). Split m rule b p) e h
 pub separator-small : (m : Mode) → separator m ≤ 32
 separator-small Historic = omega arith
 separator-small Standard = omega arith
+separator-small Business = omega arith
 
 and-false : (b : Bool) → (b && false) ≡ false
 and-false true = refl

@@ -7,15 +7,15 @@ use mathlib.Core.List.{List, [], _∷_}
 use Prim.Native.Nat.{ℕ, zero, suc, _+_, _-_, _%_}
 use lib.Dec.{eqb, ltb}
 use lib.ListN.{length, take, drop, getD}
-use Rattle.characters.specs.Answers.{every, pick}
+use Rattle.characters.specs.Answers.{pick}
 use Rattle.groups.specs.Modes.{separator}
+use Rattle.groups.specs.Formats.{Rule}
 use Rattle.groups.specs.Table.{lookup, rows}
 use Rattle.groups.specs.Stamps.{isStamped, stampRight}
 use Rattle.groups.specs.Groups.{Group, groupOf}
-use Rattle.groups.specs.Spelled.{among, spelled}
+use Rattle.groups.specs.Made.{someMade}
 use Rattle.groups.specs.declared.Mode.{Mode}
-use Rattle.groups.specs.declared.Mode.the-variants.{Historic, Standard}
-use Rattle.groups.specs.declared.table.Rule.{Rule}
+use Rattle.groups.specs.declared.Mode.the-variants.{Historic, Standard, Business}
 
 -- the place of the first character of this code; the length where there is none
 unfoldable pub firstAt : ℕ → List ℕ → ℕ
@@ -43,10 +43,11 @@ misshapen m c =
     || eqb (firstAt (separator m) c) (finalPlace c)
 
 -- how many characters, from the first on, enter the sum: "through the last of the data", and in standard mode the final
--- separator too
+-- separator too; in mode 2 by "mode de calcul n°1" (document 003, 2.9.1), without it
 abbrev pub summed : Mode → List ℕ → ℕ
 summed Historic c = length c - 2
 summed Standard c = length c - 1
+summed Business c = length c - 2
 
 -- "add the character codes": of the first n
 unfoldable pub sumOf : ℕ → List ℕ → ℕ
@@ -84,15 +85,18 @@ unfoldable pub stampIn : Bool → List ℕ → List ℕ
 stampIn false body = []
 stampIn true body = take 13 body
 
--- 13: "data not of the width"
+-- 13: "data not of the width"; "a length outside" the smallest and largest (document 02, M-100)
+abbrev pub outside : Rule → List ℕ → Bool
+outside rule d = ltb (length d) (rule .smallest) || ltb (rule .largest) (length d)
+
 abbrev pub widthWrong : List ℕ → Option Rule → Bool
 widthWrong body none = false
-widthWrong body (some rule) = not (eqb (length (dataIn (isStamped (rule .mark)) body)) (rule .width))
+widthWrong body (some rule) = outside rule (dataIn (isStamped (rule .mark)) body)
 
--- 14: "a data character not of the kind"
+-- 14: "a data character not of the kind"; "any other data that don't fit the fields"
 abbrev pub kindWrong : List ℕ → Option Rule → Bool
 kindWrong body none = false
-kindWrong body (some rule) = not (every (among (spelled (rule .kind))) (dataIn (isStamped (rule .mark)) body))
+kindWrong body (some rule) = not (someMade (rule .formats) (dataIn (isStamped (rule .mark)) body))
 
 -- "Order: 7 to 14 as numbered"; 7 is the line's
 abbrev pub fieldConditions : Mode → List ℕ → Option Rule → List (ℕ × Bool)
@@ -110,11 +114,13 @@ conditions m c =
     ∷ (10, checkWrong m c)
     ∷ fieldConditions m (bodyOf m c) (lookup (labelOf m c) (rows m))
 
--- "after 19 where a mode is handed in": 19, "mode not 0 or 1"; "Mode 0 is historic .. Mode 1 is standard"
+-- "after 19 where a mode is handed in": 19, "a mode not 0 to 2" (document 02, M-100); "Mode 0 is historic .. Mode 1 is
+-- standard", "Add it as mode 2"
 unfoldable pub givenWhen : ℕ → List ℕ → List (ℕ × Bool)
 givenWhen zero c = (19, false) ∷ conditions Historic c
 givenWhen (suc zero) c = (19, false) ∷ conditions Standard c
-givenWhen (suc (suc number)) c = (19, true) ∷ []
+givenWhen (suc (suc zero)) c = (19, false) ∷ conditions Business c
+givenWhen (suc (suc (suc number))) c = (19, true) ∷ []
 
 -- the fields of a content with nothing wrong
 abbrev pub markedFields : Mode → List ℕ → Option Rule → Group

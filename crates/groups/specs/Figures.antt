@@ -9,7 +9,9 @@ use Rattle.characters.specs.Answers.{need, found, pick}
 use Rattle.characters.specs.Wire.{isSound}
 use Rattle.characters.specs.WireLaws.{damaged-stx}
 use Rattle.groups.specs.Modes.{modeOf}
-use Rattle.groups.specs.Table.{codes, historicRows, standardRows, lookup}
+use Rattle.groups.specs.Forms.{takes, matches, hasLength, fits, someFits}
+use Rattle.groups.specs.Formats.{formOf}
+use Rattle.groups.specs.Table.{codes, historicRows, standardRows, businessRows, lookup}
 use Rattle.groups.specs.Stamps.{daysIn, dateRight, stampAs, stampRight}
 use Rattle.groups.specs.Fields.{widthRight, kindRight, checked}
 use Rattle.groups.specs.Cuts.{cut, ending}
@@ -24,7 +26,7 @@ pub data Figure : Type 0 where
   stamp : String → Bool → Figure
   wireByte : ℕ → Bool → Figure
 
--- P1 to P12, in order; P9 names no mode, so it stands for both
+-- P1 to P12, in order; P9 names no mode, so it stands for both of document 01's
 abbrev pub figures : List Figure
 figures =
     group 1 "URMS1\t230\t?" 1 ∷
@@ -53,9 +55,38 @@ AllHold [] = Unit {0}
 AllHold (f ∷ more) = Holds f × AllHold more
 
 pub figures-hold : AllHold figures
-unfolding judging modeOf read behindLabel fieldsOf checked widthRight kindRight lookup check parts stampAs dateRight daysIn need found pick cut ending historicRows standardRows
+unfolding judging modeOf read behindLabel fieldsOf checked widthRight kindRight someFits fits hasLength matches takes formOf lookup check parts stampAs dateRight daysIn need found pick cut ending historicRows standardRows
 figures-hold =
     (refl, (refl, (refl, (refl, (refl, (refl, (refl, (refl, (refl, (refl, (refl, (refl, (damaged-stx, tt)))))))))))))
+
+-- M-100 names no figures; these are contents of mode 2 with the check characters of document 003, 1.5.2: what
+-- document 003 prints (2.9.3 (K), (N), (Q), (U), (W)), and what each rule of its own refuses
+abbrev pub businessFigures : List Figure
+businessFigures =
+    group 2 "TRAME TEST 9" 1 ∷
+    group 2 "PREAVIS DEP 3" 1 ∷
+    group 2 "PREAVIS DEP  S" 1 ∷
+    group 2 "PTCOUR1 P ^" 1 ∷
+    group 2 "PTCOUR1 P   ^" 1 ∷
+    group 2 "DATE 15/11/26 15:28:14 5" 1 ∷
+    group 2 "EA_s 1234567Wh C" 1 ∷
+    group 2 "PA1_s 123TkW @" 1 ∷
+    group 2 "TGPHI_s -0.25 @" 1 ∷
+    group 2 "TDYN1CD 01/12/26 06:00:00-HPH H" 1 ∷
+    group 2 "PREAVIS DEP S" 10 ∷
+    group 2 "EA 1Wh 6" 11 ∷
+    group 2 "ETATDYN1 P Z" 13 ∷
+    group 2 "PA1MN 123456kW T" 13 ∷
+    group 2 "PA1_s 123456kW K" 14 ∷
+    group 2 "TARIFDYN ACTIFX  " 14 ∷
+    group 2 "CONFIG prod +" 14 ∷
+    group 3 "PREAVIS DEP 3" 19 ∷
+    []
+
+pub business-figures-hold : AllHold businessFigures
+unfolding judging modeOf read behindLabel fieldsOf checked widthRight kindRight someFits fits hasLength matches takes formOf lookup check parts stampAs need found pick cut ending businessRows
+business-figures-hold =
+    (refl, (refl, (refl, (refl, (refl, (refl, (refl, (refl, (refl, (refl, (refl, (refl, (refl, (refl, (refl, (refl, (refl, (refl, tt))))))))))))))))))
 
 -- M-101 names no figures; these are the table of seasons in document 001, 6.2.1.1, with the two stamps that it works out
 -- there, and DPM1, whose season is a space
@@ -73,5 +104,5 @@ laterFigures =
     []
 
 pub later-figures-hold : AllHold laterFigures
-unfolding judging modeOf read behindLabel fieldsOf checked widthRight kindRight lookup check parts stampAs dateRight daysIn need found pick cut ending standardRows
+unfolding judging modeOf read behindLabel fieldsOf checked widthRight kindRight someFits fits hasLength matches takes formOf lookup check parts stampAs dateRight daysIn need found pick cut ending standardRows
 later-figures-hold = (refl, (refl, (refl, (refl, (refl, (refl, (refl, (refl, (refl, tt)))))))))

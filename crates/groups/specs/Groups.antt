@@ -7,6 +7,7 @@ use lib.Dec.{leb, eqb}
 use lib.ListN.{length, take, drop}
 use Rattle.characters.specs.Answers.{Answer, need, found, pick}
 use Rattle.groups.specs.Modes.{separator, countedAtEnd}
+use Rattle.groups.specs.Formats.{Rule}
 use Rattle.groups.specs.Table.{lookup, rows}
 use Rattle.groups.specs.Stamps.{isStamped}
 use Rattle.groups.specs.Fields.{checked}
@@ -14,7 +15,6 @@ use Rattle.groups.specs.Cuts.{cut, ending}
 use Rattle.groups.specs.declared.Mode.{Mode}
 use Rattle.groups.specs.declared.Refusal.{Refusal}
 use Rattle.groups.specs.declared.Refusal.the-variants.{TooLong, Misshapen, CheckWrong, LabelUnknown, StampWrong}
-use Rattle.groups.specs.declared.table.Rule.{Rule}
 
 -- an absent stamp is empty
 pub record Group : Type 0 where

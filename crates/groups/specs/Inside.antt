@@ -5,12 +5,12 @@ use mathlib.Core.Bool.{Bool}
 use mathlib.Core.Option.{Option, none, some}
 use mathlib.Core.List.{List, [], _∷_, _++_}
 use Prim.Native.Nat.{ℕ, suc, _+_, _-_, _*_, _%_, _≤_}
-use lib.Dec.{T as So, leb}
+use lib.Dec.{T as So}
 use lib.ListN.{length, take, drop}
 use lib.Seq.{sets}
 use Rattle.characters.specs.Answers.{Answer, refused, given, pick}
 use Rattle.groups.specs.Modes.{separator, countedAtEnd}
-use Rattle.groups.specs.Table.{Entry}
+use Rattle.groups.specs.Formats.{Rule}
 use Rattle.groups.specs.Stamps.{isStamped, stampRight}
 use Rattle.groups.specs.Fields.{longest, widthRight, kindRight, checked}
 use Rattle.groups.specs.Groups.{Group, groupOf, content, body, total, fieldsOf}
@@ -26,25 +26,12 @@ use Rattle.groups.specs.declared.Verdict.{Verdict}
 use Rattle.groups.specs.declared.Verdict.the-variants.{Accepted, Refused}
 use Rattle.groups.specs.declared.modes.Chosen.{Chosen}
 use Rattle.groups.specs.declared.modes.Chosen.the-variants.{Known, Unknown}
-use Rattle.groups.specs.declared.find.Found.{Found}
-use Rattle.groups.specs.declared.find.Found.the-variants.{Listed, Unlisted}
-use Rattle.groups.specs.declared.table.Row.{Row}
-use Rattle.groups.specs.declared.table.Rule.{Rule}
 
 -- ---- Views
 
 abbrev pub chosenOf : Option Mode → Chosen
 chosenOf none = Unknown
 chosenOf (some m) = Known m
-
-abbrev pub foundOf : Option Rule → Found
-foundOf none = Unlisted
-foundOf (some rule) = Listed rule
-
--- what was found before, or else what is found now
-abbrev pub orElse : Found → Option Rule → Found
-orElse (Listed rule) now = Listed rule
-orElse Unlisted now = foundOf now
 
 abbrev pub verdictOf : {A : Type 0} → Answer Refusal A → Verdict
 verdictOf (refused refusal) = Refused refusal
@@ -53,15 +40,6 @@ verdictOf (given a) = Accepted
 -- what a rule says of stamp and data
 abbrev pub fitness : Rule → List ℕ → List ℕ → Verdict
 fitness rule stamp d = verdictOf (checked rule stamp d d)
-
--- ---- The table in arrays of nine rows
-
--- a row's label and rule
-abbrev pub entryOf : Row → Entry
-entryOf r = record { label = take (r .1) (r .0); rule = record { width = r .2; kind = r .3; mark = r .4 } }
-
-abbrev pub labelFits : Row → Bool
-labelFits r = leb (r .1) 9
 
 -- ---- Walks
 

@@ -14,7 +14,7 @@ use Rattle.groups.specs.declared.Verdict.the-variants.{Accepted, Refused
 use Rattle.groups.specs.declared.Stretch.{Stretch}
 use Rattle.groups.specs.declared.Judged.{Judged}
 
--- a content in the mode of a number: 19 first, "mode not 0 or 1"
+-- a content in the mode of a number: 19 first, "a mode not 0 to 2"
 unfoldable pub judging : ℕ → List ℕ → Answer Refusal Group
 judging number c = found (modeOf number) ModeUnknown λ m. read m c
 

@@ -1,12 +1,14 @@
 -- The laws behind the promises, and those that proofs of functions share with them. Nobody has to believe them: they
 -- are checked.
 pub mod Tests
+pub mod Forms
 pub mod Cuts
 pub mod Table
 pub mod Groups
 pub mod Places
 pub mod OnTheWire
 pub mod Stamps
+pub mod Made
 pub mod Right
 pub mod Listed
 pub mod Shown
@@ -19,3 +21,4 @@ pub mod Stretches
 pub mod Writer
 pub mod Written
 pub mod Seasons
+pub mod Business

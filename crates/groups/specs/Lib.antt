@@ -1,6 +1,8 @@
 -- The definitions that the contracts cite, in document 01's order; then the laws behind the promises.
 pub mod Modes
 pub mod Kinds
+pub mod Forms
+pub mod Formats
 pub mod Table
 pub mod Stamps
 pub mod Fields
@@ -10,9 +12,11 @@ pub mod Numbers
 pub mod Judging
 pub mod Writing
 pub mod Spelled
+pub mod Made
 pub mod Conditions
 pub mod WriterConditions
 pub mod Stretches
+pub mod Stored
 pub mod Inside
 pub mod RightStamps
 pub mod Right

@@ -11,7 +11,9 @@ use Rattle.characters.specs.Answers.{given, every, firstOf}
 use Rattle.characters.specs.Wire.{isSound, wireByteOf, HT}
 use Rattle.groups.specs.Modes.{modeOf, isMode}
 use Rattle.groups.specs.Kinds.{ofKind}
-use Rattle.groups.specs.Table.{Entry, rows}
+use Rattle.groups.specs.Forms.{someFits}
+use Rattle.groups.specs.Formats.{Rule, forms}
+use Rattle.groups.specs.Table.{rows, plain}
 use Rattle.groups.specs.Stamps.{isStamped, stampRight}
 use Rattle.groups.specs.Groups.{Group, groupOf}
 use Rattle.groups.specs.Numbers.{numberOfRefusal, numberOf, numberOfWriting}
@@ -23,7 +25,8 @@ use Rattle.groups.specs.Stretches.{sixNumbers, stretchesDue}
 use Rattle.groups.specs.Spelled.{among, spelled}
 use Rattle.groups.specs.RightStamps.{RightStamp}
 use Rattle.groups.specs.Right.{RightGroup}
-use Rattle.groups.specs.Listed.{page}
+use Rattle.groups.specs.Made.{someMade}
+use Rattle.groups.specs.Listed.{OnPage, asOnPage, page}
 use Rattle.groups.specs.Seasons.{Season, letterOf, degraded, isPeak, closed}
 use Rattle.groups.specs.Laws.Listed.{rows-as-listed}
 use Rattle.groups.specs.Laws.Right.{found-listed}
@@ -41,19 +44,19 @@ use Rattle.groups.specs.Laws.Stretches.{judged-stretches}
 use Rattle.groups.specs.Laws.OnTheWire.{on-bytes}
 use Rattle.groups.specs.Laws.Writer.{written-first}
 use Rattle.groups.specs.Laws.Written.{written-counted, written-left}
+use Rattle.groups.specs.Laws.Business.{row-made, row-lengths, plain-made, never-twelve, stamp-refused}
 use Rattle.groups.specs.Laws.Seasons.{degraded-told, degraded-judged, peak-told, peak-judged}
 use Rattle.groups.specs.declared.Mode.{Mode}
-use Rattle.groups.specs.declared.Mode.the-variants.{Standard}
+use Rattle.groups.specs.declared.Mode.the-variants.{Standard, Business}
 use Rattle.groups.specs.declared.Refusal.{Refusal}
 use Rattle.groups.specs.declared.Verdict.the-variants as verdict
 use Rattle.groups.specs.declared.Outcome.the-variants as outcome
 use Rattle.groups.specs.declared.Stretch.{Stretch}
 use Rattle.groups.specs.declared.table.Kind.{Kind}
 use Rattle.groups.specs.declared.table.Mark.{Mark}
-use Rattle.groups.specs.declared.table.Rule.{Rule}
 
--- The numbers of modes are 0 and 1.
-pub modes-exactly : (number : ℕ) → isMode number ≡ ltb number 2
+-- The numbers of modes are 0, 1 and 2.
+pub modes-exactly : (number : ℕ) → isMode number ≡ ltb number 3
 modes-exactly = known-below
 
 -- Demand 2: a content is accepted as a group exactly when writing that group makes that content.
@@ -67,9 +70,34 @@ pub accepted-exactly : (number : ℕ) (c : List ℕ) (g : Group)
     → (judging number c ≡ given g) ↔ ((m : Mode) × (modeOf number ≡ some m) × RightGroup m c g)
 accepted-exactly = judged-right
 
--- The table of a mode has a label with a rule exactly when document 01's page lists it so.
-pub table-exactly : (m : Mode) (row : Entry) → List·Memᴰ row (rows m) ↔ List·Memᴰ row (page m)
+-- The table of a mode has a label with a stamp, lengths and forms exactly when its page, document 01's or document 003's,
+-- lists it so.
+pub table-exactly : (m : Mode) (line : OnPage) → List·Memᴰ line (map asOnPage (rows m)) ↔ List·Memᴰ line (page m)
 table-exactly = rows-as-listed
+
+-- Document 02, M-100: data are taken by a form of a row exactly when they are made of the fields of one of its formats.
+pub formats-exactly : (m : Mode) (label : List ℕ) (rule : Rule) → List·Memᴰ (record { label = label; rule = rule }) (rows m)
+    → (d : List ℕ) → someFits (forms (rule .formats)) d ≡ someMade (rule .formats) d
+formats-exactly = row-made
+
+-- Such data have a length from the smallest to the largest of the row: "13 is a length outside these".
+pub lengths-right : (m : Mode) (label : List ℕ) (rule : Rule) → List·Memᴰ (record { label = label; rule = rule }) (rows m)
+    → (d : List ℕ) → T (someMade (rule .formats) d) → (rule .smallest ≤ length d) × (length d ≤ rule .largest)
+lengths-right = row-lengths
+
+-- The rows of modes 0 and 1 are the case of one field: data of its width, with each character of its kind.
+pub one-field-exactly : (kind : Kind) (width : ℕ) (d : List ℕ)
+    → T (someMade (plain kind width) d) ↔ ((length d ≡ width) × T (every (among (spelled kind)) d))
+one-field-exactly = plain-made
+
+-- "No row of mode 2 is stamped": the reader never answers 12 there, and the writer answers 12 to any stamp.
+pub unstamped-read : (c : List ℕ) → T (not (eqb (numberOf (shown (judging 2 c) .verdict)) 12))
+unstamped-read = never-twelve
+
+pub unstamped-written : (label : List ℕ) (rule : Rule) → List·Memᴰ (record { label = label; rule = rule }) (rows Business)
+    → (x : ℕ) (rest d : List ℕ) (room : ℕ)
+    → numberOfWriting (told (writing 2 (groupOf label (x ∷ rest) d) room) .outcome) ≡ 12
+unstamped-written = stamp-refused
 
 -- A character passes the test of a kind exactly when it is one of those that are spelled out for the kind.
 pub kind-exactly : (kind : Kind) (c : ℕ) → T (ofKind kind c) ↔ T (among (spelled kind) c)

@@ -5,14 +5,14 @@ use Prim.Native.Nat.{ℕ, zero, suc, _+_, _-_}
 use lib.Dec.{eqb}
 use Rattle.characters.specs.Answers.{pick, firstOf}
 use Rattle.groups.specs.Modes.{separator}
+use Rattle.groups.specs.Formats.{Rule}
 use Rattle.groups.specs.Table.{rows, lookup}
 use Rattle.groups.specs.Conditions.{firstAt, finalPlace, labelOf, conditions}
 use Rattle.groups.specs.declared.Mode.{Mode}
-use Rattle.groups.specs.declared.Mode.the-variants.{Historic, Standard}
+use Rattle.groups.specs.declared.Mode.the-variants.{Historic, Standard, Business}
 use Rattle.groups.specs.declared.Judged.{Judged}
 use Rattle.groups.specs.declared.table.Mark.{Mark}
 use Rattle.groups.specs.declared.table.Mark.the-variants.{Unstamped, Letter, Space}
-use Rattle.groups.specs.declared.table.Rule.{Rule}
 
 -- start and length of label, stamp and data
 abbrev pub sixNumbers : Judged → List ℕ
@@ -47,4 +47,5 @@ stretchesIn m c =
 unfoldable pub stretchesDue : ℕ → List ℕ → List ℕ
 stretchesDue zero c = stretchesIn Historic c
 stretchesDue (suc zero) c = stretchesIn Standard c
-stretchesDue (suc (suc number)) c = noStretches
+stretchesDue (suc (suc zero)) c = stretchesIn Business c
+stretchesDue (suc (suc (suc number))) c = noStretches

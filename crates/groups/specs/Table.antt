@@ -1,20 +1,21 @@
--- The labels of each mode (document 01, "One group"), in the order of their bytes: label, kind and width as on the page;
--- `stamped` is its *, and `spaceStamped` are those of them whose season is a space.
+-- The labels of each mode, in the order of their bytes. Modes 0 and 1: label, kind and width as on document 01's page ("One
+-- group"); `stamped` is its *, and `spaceStamped` are those of them whose season is a space. Mode 2: the labels of document
+-- 003, Tableau 10, with the formats of 2.9.3.
 use mathlib.Core.Bool.{Bool, true, false, _&&_}
 use mathlib.Core.Option.{Option, none, some}
-use mathlib.Core.List.{List, [], _∷_}
+use mathlib.Core.List.{List, [], _∷_, _++_}
 use Prim.Native.Nat.{ℕ}
 use Prim.Native.Char.{code}
 use Prim.Native.String.{String, [] as end, _∷_ as _then_}
 use lib.Dec.{eqb}
 use Rattle.characters.specs.Answers.{pick}
+use Rattle.groups.specs.Formats.{Field, run, text, commaOrPoint, Rule, byFormats}
 use Rattle.groups.specs.declared.Mode.{Mode}
-use Rattle.groups.specs.declared.Mode.the-variants.{Historic, Standard}
+use Rattle.groups.specs.declared.Mode.the-variants.{Historic, Standard, Business}
 use Rattle.groups.specs.declared.table.Kind.{Kind}
 use Rattle.groups.specs.declared.table.Kind.the-variants.{Digits as N, Hex as X, Text as T}
 use Rattle.groups.specs.declared.table.Mark.{Mark}
 use Rattle.groups.specs.declared.table.Mark.the-variants.{Unstamped, Letter, Space}
-use Rattle.groups.specs.declared.table.Rule.{Rule}
 
 -- a label, and what it asks of stamp and data
 pub record Entry : Type 0 where
@@ -26,17 +27,23 @@ abbrev pub codes : String → List ℕ
 codes end = []
 codes (c then s) = code c ∷ codes s
 
-abbrev entry : Mark → String → Kind → ℕ → Entry
-entry mark label kind width = record { label = codes label; rule = record { width = width; kind = kind; mark = mark } }
+abbrev entry : Mark → String → List (List Field) → Entry
+entry mark label formats = record { label = codes label; rule = byFormats mark formats }
+
+-- ---- Modes 0 and 1
+
+-- data of one kind and one width: one format, of one field
+abbrev pub plain : Kind → ℕ → List (List Field)
+plain kind width = (run kind width width ∷ []) ∷ []
 
 abbrev unstamped : String → Kind → ℕ → Entry
-unstamped = entry Unstamped
+unstamped label kind width = entry Unstamped label (plain kind width)
 
 abbrev stamped : String → Kind → ℕ → Entry
-stamped = entry Letter
+stamped label kind width = entry Letter label (plain kind width)
 
 abbrev spaceStamped : String → Kind → ℕ → Entry
-spaceStamped = entry Space
+spaceStamped label kind width = entry Space label (plain kind width)
 
 unfoldable pub historicRows : List Entry
 historicRows =
@@ -151,9 +158,152 @@ standardRows =
     unstamped "VTIC" T 2 ∷
     []
 
+-- ---- Mode 2: the formats of document 003, 2.9.3, under its letters
+
+-- one text, or another
+abbrev pub exactly : String → List (List Field)
+exactly t = (text (codes t) ∷ []) ∷ []
+
+abbrev pub either : String → String → List (List Field)
+either one other = exactly one ++ exactly other
+
+-- (A), (F), (N), (U): a name, "alphanumérique", which may have spaces in it and behind it
+abbrev pub name : ℕ → ℕ → List (List Field)
+name fewest most = (run T fewest most ∷ []) ∷ []
+
+-- a value of one digit or more, and what stands right behind it
+abbrev value : ℕ → String → List Field
+value digits unit = run N 1 digits ∷ text (codes unit) ∷ []
+
+abbrev two : Field
+two = run N 2 2
+
+-- (B): "JJ/MM/AA HH:MM:SS"
+abbrev dateFields : List Field
+dateFields =
+    two ∷ text (codes "/") ∷ two ∷ text (codes "/") ∷ two ∷ text (codes " ")
+    ∷ two ∷ text (codes ":") ∷ two ∷ text (codes ":") ∷ two ∷ []
+
+abbrev pub date : List (List Field)
+date = dateFields ∷ []
+
+-- (C): "xxxxxTkW", the T where the value was cut short
+abbrev pub averagePower : List (List Field)
+averagePower = value 5 "kW" ∷ value 5 "TkW" ∷ []
+
+-- (D), (L), (M), (P): seven digits at most
+abbrev pub energy : String → List (List Field)
+energy unit = value 7 unit ∷ []
+
+-- (I), (V): "kW ou kVA"
+abbrev pub subscribedPower : List (List Field)
+subscribedPower = value 5 "kW" ∷ value 5 "kVA" ∷ []
+
+-- (Q): from -9999,99 to 99999,99, two digits behind a comma or a point. Only a first field varies, so each count of digits
+-- behind the minus sign is a format.
+abbrev negative : ℕ → List Field
+negative digits = text (codes "-") ∷ run N digits digits ∷ commaOrPoint ∷ two ∷ []
+
+abbrev pub tangent : List (List Field)
+tangent = (run N 1 5 ∷ commaOrPoint ∷ two ∷ []) ∷ negative 1 ∷ negative 2 ∷ negative 3 ∷ negative 4 ∷ []
+
+-- (S)
+abbrev pub power : List (List Field)
+power = value 5 "kW" ∷ []
+
+-- (U): "TD-" and the name of a period; a date, "-" and the name of a period
+abbrev pub notice : List (List Field)
+notice = (text (codes "TD-") ∷ run T 3 3 ∷ []) ∷ []
+
+abbrev pub datedName : List (List Field)
+datedName = (dateFields ++ text (codes "-") ∷ run T 3 3 ∷ []) ∷ []
+
+abbrev business : String → List (List Field) → Entry
+business = entry Unstamped
+
+unfoldable pub businessRows : List Entry
+businessRows =
+    business "ADS" (name 12 12) ∷
+    business "CONFIG" (either "CONSO" "PROD") ∷
+    business "DATE" date ∷
+    business "DATEPA1" date ∷
+    business "DATEPA2" date ∷
+    business "DATEPA3" date ∷
+    business "DATEPA4" date ∷
+    business "DATEPA5" date ∷
+    business "DATEPA6" date ∷
+    business "DebP" date ∷
+    business "DebP-1" date ∷
+    business "DebP-1_2" date ∷
+    business "DebP_2" date ∷
+    business "EAPP_i" (energy "VAh") ∷
+    business "EAPP_s" (energy "VAh") ∷
+    business "EAP_i" (energy "kWh") ∷
+    business "EAP_s" (energy "kWh") ∷
+    business "EA_i" (energy "Wh") ∷
+    business "EA_s" (energy "Wh") ∷
+    business "ER+P-1_i" (energy "kvarh") ∷
+    business "ER+P-1_s" (energy "kvarh") ∷
+    business "ER+P_i" (energy "kvarh") ∷
+    business "ER+P_s" (energy "kvarh") ∷
+    business "ER+_i" (energy "varh") ∷
+    business "ER+_s" (energy "varh") ∷
+    business "ER-P-1_i" (energy "kvarh") ∷
+    business "ER-P-1_s" (energy "kvarh") ∷
+    business "ER-P_i" (energy "kvarh") ∷
+    business "ER-P_s" (energy "kvarh") ∷
+    business "ER-_i" (energy "varh") ∷
+    business "ER-_s" (energy "varh") ∷
+    business "ETATDYN1" (name 3 3) ∷
+    business "ETATDYN2" (name 3 3) ∷
+    business "EaP-1_i" (energy "kWh") ∷
+    business "EaP-1_s" (energy "kWh") ∷
+    business "EaP-1_s2" (energy "kWh") ∷
+    business "EaP_s2" (energy "kWh") ∷
+    business "FinP-1" date ∷
+    business "FinP-1_2" date ∷
+    business "MESURES1" (name 10 10) ∷
+    business "MESURES2" (name 10 10) ∷
+    business "MODE" (exactly "CONTROLE") ∷
+    business "PA1MN" power ∷
+    business "PA1_i" averagePower ∷
+    business "PA1_s" averagePower ∷
+    business "PA2_i" averagePower ∷
+    business "PA2_s" averagePower ∷
+    business "PA3_i" averagePower ∷
+    business "PA3_s" averagePower ∷
+    business "PA4_i" averagePower ∷
+    business "PA4_s" averagePower ∷
+    business "PA5_i" averagePower ∷
+    business "PA5_s" averagePower ∷
+    business "PA6_i" averagePower ∷
+    business "PA6_s" averagePower ∷
+    business "PMAX_i" subscribedPower ∷
+    business "PMAX_s" subscribedPower ∷
+    business "PREAVIS" (either "DEP" "DEP ") ∷
+    business "PREAVIS1" notice ∷
+    business "PREAVIS2" notice ∷
+    business "PS" subscribedPower ∷
+    business "PTCOUR1" (name 1 3) ∷
+    business "PTCOUR2" (name 1 3) ∷
+    business "TARIFDYN" (either "ACTIF" "INACTIF") ∷
+    business "TDYN1CD" datedName ∷
+    business "TDYN1CF" datedName ∷
+    business "TDYN1FD" datedName ∷
+    business "TDYN1FF" datedName ∷
+    business "TDYN2CD" datedName ∷
+    business "TDYN2CF" datedName ∷
+    business "TDYN2FD" datedName ∷
+    business "TDYN2FF" datedName ∷
+    business "TGPHI_i" tangent ∷
+    business "TGPHI_s" tangent ∷
+    business "TRAME" (exactly "TEST") ∷
+    []
+
 abbrev pub rows : Mode → List Entry
 rows Historic = historicRows
 rows Standard = standardRows
+rows Business = businessRows
 
 -- whether two texts are the same
 abbrev pub same : List ℕ → List ℕ → Bool

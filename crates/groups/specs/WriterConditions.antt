@@ -7,15 +7,16 @@ use mathlib.Core.List.{List, [], _∷_}
 use Prim.Native.Nat.{ℕ, zero, suc, _+_, _≤_}
 use lib.Dec.{eqb, ltb}
 use lib.ListN.{length, take, getD}
-use Rattle.characters.specs.Answers.{Answer, refused, given, every, pick, firstOf}
-use Rattle.groups.specs.Table.{historicRows, standardRows, lookup}
+use Rattle.characters.specs.Answers.{Answer, refused, given, pick, firstOf}
+use Rattle.groups.specs.Formats.{Rule}
+use Rattle.groups.specs.Table.{historicRows, standardRows, businessRows, lookup}
 use Rattle.groups.specs.Stamps.{stampRight}
 use Rattle.groups.specs.Groups.{Group}
-use Rattle.groups.specs.Spelled.{among, spelled}
+use Rattle.groups.specs.Made.{someMade}
+use Rattle.groups.specs.Conditions.{outside}
 use Rattle.groups.specs.declared.Refusal.{Refusal}
 use Rattle.groups.specs.declared.table.Mark.{Mark}
 use Rattle.groups.specs.declared.table.Mark.the-variants.{Unstamped, Letter, Space}
-use Rattle.groups.specs.declared.table.Rule.{Rule}
 
 -- 12: "writer: stamp not right, missing, or given for an unstamped label"; one that is not given is empty
 abbrev pub stampUnfit : Mark → List ℕ → Bool
@@ -34,23 +35,24 @@ roomForStamp Space = 13 + 1
 unfoldable pub roomFor : Mark → Group → ℕ
 roomFor mark g = 1 + length (g .label) + 1 + roomForStamp mark + length (g .«data») + 1 + 1 + 1
 
--- by the rule that the label has, if it has one: 11, "label not in the mode's list"; 13, "data not of the width"; 14, "a
--- data character not of the kind"; 15, "lent buffer too short for all"
+-- by the rule that the label has, if it has one: 11, "label not in the mode's list"; 13, "a length outside" the smallest and
+-- largest; 14, "any other data that don't fit the fields"; 15, "lent buffer too short for all"
 abbrev pub fieldsUnfit : Group → ℕ → Option Rule → List (ℕ × Bool)
 fieldsUnfit g room none = (11, true) ∷ []
 fieldsUnfit g room (some rule) =
     (11, false)
     ∷ (12, stampUnfit (rule .mark) (g .stamp))
-    ∷ (13, not (eqb (length (g .«data»)) (rule .width)))
-    ∷ (14, not (every (among (spelled (rule .kind))) (g .«data»)))
+    ∷ (13, outside rule (g .«data»))
+    ∷ (14, not (someMade (rule .formats) (g .«data»)))
     ∷ (15, ltb room (roomFor (rule .mark) g))
     ∷ []
 
--- 19, "mode not 0 or 1", first
+-- 19, "a mode not 0 to 2", first
 unfoldable pub writtenWhen : ℕ → Group → ℕ → List (ℕ × Bool)
 writtenWhen zero g room = (19, false) ∷ fieldsUnfit g room (lookup (g .label) historicRows)
 writtenWhen (suc zero) g room = (19, false) ∷ fieldsUnfit g room (lookup (g .label) standardRows)
-writtenWhen (suc (suc number)) g room = (19, true) ∷ []
+writtenWhen (suc (suc zero)) g room = (19, false) ∷ fieldsUnfit g room (lookup (g .label) businessRows)
+writtenWhen (suc (suc (suc number))) g room = (19, true) ∷ []
 
 -- "The writer also tells how many bytes it wrote, 0 when it refuses."
 abbrev pub countFor : Group → Option Rule → ℕ
@@ -62,7 +64,9 @@ countDue zero g room =
     pick (eqb (firstOf 0 (writtenWhen 0 g room)) 0) (countFor g (lookup (g .label) historicRows)) 0
 countDue (suc zero) g room =
     pick (eqb (firstOf 0 (writtenWhen 1 g room)) 0) (countFor g (lookup (g .label) standardRows)) 0
-countDue (suc (suc number)) g room = 0
+countDue (suc (suc zero)) g room =
+    pick (eqb (firstOf 0 (writtenWhen 2 g room)) 0) (countFor g (lookup (g .label) businessRows)) 0
+countDue (suc (suc (suc number))) g room = 0
 
 -- a buffer begins with these bytes, "the rest unchanged"
 pub record Leaves (bytes before after : List ℕ) : Type 0 where

@@ -2,14 +2,23 @@
 use crate::Refusal;
 use crate::Verdict;
 use crate::stamps;
+use crate::table;
+use crate::table::Form;
+use crate::table::Forms;
 use crate::table::Kind;
+use crate::table::Mark;
+use crate::table::Plain;
 use crate::table::Rule;
 ghost use mathlib.Core.Path.{_≡_};
 ghost use mathlib.Core.Bool.{true};
-ghost use Prim.Native.Nat.{_+_, _≤_};
+ghost use Prim.Native.Nat.{_+_, _≤_, max};
 ghost use lib.ListN.{length};
 ghost use Rattle.characters.specs.Passing.{Pass};
 ghost use Rattle.groups.specs.Kinds.{ofKind};
+ghost use Rattle.groups.specs.Forms.{takes};
+ghost use Rattle.groups.specs.Formats.{forms as formsOf};
+ghost use Rattle.groups.specs.Stored.{plainRule, formedRule, ruleOf, formIn, formatsFrom};
+ghost use Rattle.groups.specs.Stored.{agreed as agreedOf, reach as reachOf, furthest as furthestOf};
 ghost use Rattle.groups.specs.Inside.{RightUpTo, wrongAt, fitness};
 
 pub(crate) fn of_kind(kind: Kind, code: u8) -> bool
@@ -68,8 +77,100 @@ pub(crate) fn wrong_at(kind: Kind, text: &[u8]) -> usize
     i
 }
 
-pub(crate) fn fit(rule: Rule, stamp: &[u8], data: &[u8]) -> Verdict
-    ensures { λ r. ⌜ r ≡ fitness rule (now (stamp .entry)) (now («data» .entry)) ⌝ }
+// Whether a character of a picture takes a character of data.
+fn taken(picture: u8, code: u8) -> bool
+    ensures { λ r. ⌜ r ≡ takes picture code ⌝ }
+{
+    if picture == b'9' {
+        return of_kind(Kind::Digits, code);
+    }
+    if picture == b'0' {
+        return of_kind(Kind::Hex, code);
+    }
+    if picture == b'*' {
+        return of_kind(Kind::Text, code);
+    }
+    if picture == b',' {
+        return (code == b',') | (code == b'.');
+    }
+    code == picture
+}
+
+// How many characters of data, from the first on, a picture of their length takes.
+fn agreed(picture: &[u8], data: &[u8]) -> usize
+    requires { ⌜ length (now picture) ≡ length (now «data») ⌝ }
+    ensures { λ r. ⌜ r ≡ agreedOf (now (picture .entry)) (now («data» .entry)) ⌝ }
+{
+    let mut i = 0;
+    while i < data.len() {
+        if taken(picture[i], data[i]) {
+            i += 1;
+        } else {
+            return i;
+        }
+    }
+    i
+}
+
+fn larger(a: usize, b: usize) -> usize
+    ensures { λ r. ⌜ r ≡ max a b ⌝ }
+{
+    if a < b {
+        return b;
+    }
+    a
+}
+
+// How far data get in a form: 0 where it has not their length, else one more than the characters that its picture takes from
+// the first on.
+fn reach(form: Form, data: &[u8]) -> usize
+    requires { ⌜ form .1 ≤ 21 ⌝ }
+    ensures { λ r. ⌜ r ≡ reachOf (formIn form) (now («data» .entry)) ⌝ }
+{
+    let least = form.0;
+    let most = form.1;
+    let picture = form.2;
+    let n = data.len();
+    if n < least {
+        return 0;
+    }
+    if most < n {
+        return 0;
+    }
+    let start = 21 - n;
+    agreed(&picture[start..], data) + 1
+}
+
+// The furthest that data get in some forms: past their end where one takes them.
+fn furthest(forms: Forms, data: &[u8]) -> usize
+    ensures { λ r. ⌜ r ≡ furthestOf (formsOf (formatsFrom (forms .first) (forms .count))) (now («data» .entry)) ⌝ }
+{
+    let first = forms.first as usize;
+    let count = forms.count as usize;
+    let mut best = 0;
+    let mut i = 0;
+    while i < count {
+        let form = table::form_of(first + i);
+        let reached = reach(form, data);
+        best = larger(best, reached);
+        i += 1;
+    }
+    best
+}
+
+// The mark of a rule: no label that has forms is stamped.
+pub(crate) fn mark_of(rule: Rule) -> Mark
+    ensures { λ r. ⌜ r ≡ ruleOf rule .mark ⌝ }
+{
+    match rule {
+        Rule::Plain(plain) => plain.mark,
+        Rule::Formed(_) => Mark::Unstamped,
+    }
+}
+
+// The tests of data of one kind and one width, in document 01's order.
+fn fit_plain(rule: Plain, stamp: &[u8], data: &[u8]) -> Verdict
+    ensures { λ r. ⌜ r ≡ fitness (plainRule rule) (now (stamp .entry)) (now («data» .entry)) ⌝ }
 {
     let mark = rule.mark;
     let width = rule.width;
@@ -84,4 +185,36 @@ pub(crate) fn fit(rule: Rule, stamp: &[u8], data: &[u8]) -> Verdict
         return Verdict::Refused(Refusal::WidthWrong);
     }
     Verdict::Refused(Refusal::StampWrong)
+}
+
+// The tests of data that have forms, and of their stamp, which is to be empty.
+fn fit_forms(forms: Forms, stamp: &[u8], data: &[u8]) -> Verdict
+    ensures { λ r. ⌜ r ≡ fitness (formedRule forms) (now (stamp .entry)) (now («data» .entry)) ⌝ }
+{
+    let smallest = forms.smallest;
+    let largest = forms.largest;
+    let n = data.len();
+    if stamp.len() != 0 {
+        return Verdict::Refused(Refusal::StampWrong);
+    }
+    if n < smallest {
+        return Verdict::Refused(Refusal::WidthWrong);
+    }
+    if largest < n {
+        return Verdict::Refused(Refusal::WidthWrong);
+    }
+    if furthest(forms, data) == n + 1 {
+        return Verdict::Accepted;
+    }
+    Verdict::Refused(Refusal::KindWrong)
+}
+
+// Whether stamp and data are what a rule asks for, or the refusal.
+pub(crate) fn fit(rule: Rule, stamp: &[u8], data: &[u8]) -> Verdict
+    ensures { λ r. ⌜ r ≡ fitness (ruleOf rule) (now (stamp .entry)) (now («data» .entry)) ⌝ }
+{
+    match rule {
+        Rule::Plain(plain) => fit_plain(plain, stamp, data),
+        Rule::Formed(forms) => fit_forms(forms, stamp, data),
+    }
 }

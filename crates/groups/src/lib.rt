@@ -18,6 +18,7 @@ ghost use Rattle.groups.specs.Writing.{writing, Wrote};
 pub enum Mode {
     Historic,
     Standard,
+    Business,
 }
 
 // Why a group, or its fields, are refused.

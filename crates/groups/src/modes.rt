@@ -19,6 +19,9 @@ pub(crate) fn mode_of(number: u8) -> Chosen
     if number == 1 {
         return Chosen::Known(Mode::Standard);
     }
+    if number == 2 {
+        return Chosen::Known(Mode::Business);
+    }
     Chosen::Unknown
 }
 
@@ -28,6 +31,7 @@ pub(crate) fn separator_of(mode: Mode) -> u8
     match mode {
         Mode::Historic => characters::SP,
         Mode::Standard => characters::HT,
+        Mode::Business => characters::SP,
     }
 }
 
@@ -38,5 +42,6 @@ pub(crate) fn counted_at_end(mode: Mode) -> u8
     match mode {
         Mode::Historic => 0,
         Mode::Standard => separator_of(mode),
+        Mode::Business => 0,
     }
 }

@@ -18,6 +18,7 @@ ghost use Rattle.groups.specs.Fields.{checked};
 ghost use Rattle.groups.specs.Modes.{countedAtEnd};
 ghost use Rattle.groups.specs.Groups.{total, groupOf, fieldsOf, behindLabel, read as readOf};
 ghost use Rattle.groups.specs.Judging.{shown, stampSpan, stampStretch};
+ghost use Rattle.groups.specs.Stored.{ruleOf};
 ghost use Rattle.groups.specs.Inside.{checkFrom, ContentWalk, FrontSum, LabelWalk, Split};
 
 // The sum of the codes.
@@ -164,7 +165,7 @@ fn place(label: &[u8], stamp: &[u8], data: &[u8]) -> Judged
 
 // The group of these fields, if its rule takes them.
 fn finish(rule: Rule, label: &[u8], stamp: &[u8], data: &[u8]) -> Judged
-    ensures { λ r. ⌜ r ≡ shown (checked rule (now (stamp .entry)) (now («data» .entry)) (groupOf (now (label .entry)) (now (stamp .entry)) (now («data» .entry)))) ⌝ }
+    ensures { λ r. ⌜ r ≡ shown (checked (ruleOf rule) (now (stamp .entry)) (now («data» .entry)) (groupOf (now (label .entry)) (now (stamp .entry)) (now («data» .entry)))) ⌝ }
 {
     let fitness = fields::fit(rule, stamp, data);
     match fitness {
@@ -180,9 +181,9 @@ pub(crate) enum Parted {
 }
 
 fn stamp_end(mode: Mode, rule: Rule, body: &[u8]) -> Parted
-    ensures { λ r. ⌜ Split mode rule (now (body .entry)) r ⌝ }
+    ensures { λ r. ⌜ Split mode (ruleOf rule) (now (body .entry)) r ⌝ }
 {
-    let mark = rule.mark;
+    let mark = fields::mark_of(rule);
     if stamps::is_stamped(mark) {
         if body.len() < 14 {
             return Parted::Unparted;
@@ -198,7 +199,7 @@ fn stamp_end(mode: Mode, rule: Rule, body: &[u8]) -> Parted
 // The fields of a label with this rule and a body, the characters between the first separator and the final one. `finish`
 // is called in one place, so that the compiler puts it there and passes nothing through memory.
 fn fields_of(mode: Mode, rule: Rule, label: &[u8], body: &[u8]) -> Judged
-    ensures { λ r. ⌜ r ≡ shown (fieldsOf mode rule (now (label .entry)) (now (body .entry))) ⌝ }
+    ensures { λ r. ⌜ r ≡ shown (fieldsOf mode (ruleOf rule) (now (label .entry)) (now (body .entry))) ⌝ }
 {
     let parted = stamp_end(mode, rule, body);
     match parted {

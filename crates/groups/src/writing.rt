@@ -21,6 +21,7 @@ ghost use Rattle.characters.specs.Wire.{wireByteOf};
 ghost use Rattle.groups.specs.Stamps.{isStamped};
 ghost use Rattle.groups.specs.Groups.{total, body, content as contentOf, compose, groupOf};
 ghost use Rattle.groups.specs.Writing.{onTheWire, into, Wrote};
+ghost use Rattle.groups.specs.Stored.{ruleOf};
 ghost use Rattle.groups.specs.Inside.{Laid, ShortRow, RightFields, writeBy};
 
 fn put(buffer: &mut [u8], at: usize, code: u8) -> usize
@@ -114,8 +115,8 @@ fn write_by(
     data: &[u8],
     buffer: &mut [u8],
 ) -> Written
-    requires { ⌜ ShortRow rule (now label) ⌝ }
-    ensures { λ r. ⌜ Wrote (writeBy mode rule (groupOf (now (label .entry)) (now (stamp .entry)) (now («data» .entry))) (length (now (buffer .entry)))) (now (buffer .entry)) r (now (buffer .exit)) ⌝ }
+    requires { ⌜ ShortRow (ruleOf rule) (now label) ⌝ }
+    ensures { λ r. ⌜ Wrote (writeBy mode (ruleOf rule) (groupOf (now (label .entry)) (now (stamp .entry)) (now («data» .entry))) (length (now (buffer .entry)))) (now (buffer .entry)) r (now (buffer .exit)) ⌝ }
 {
     let fitness = fields::fit(rule, stamp, data);
     match fitness {
@@ -133,15 +134,15 @@ fn write_right(
     data: &[u8],
     buffer: &mut [u8],
 ) -> Written
-    requires { ⌜ ShortRow rule (now label) × RightFields rule (now stamp) (now «data») ⌝ }
-    ensures { λ r. ⌜ Wrote (writeBy mode rule (groupOf (now (label .entry)) (now (stamp .entry)) (now («data» .entry))) (length (now (buffer .entry)))) (now (buffer .entry)) r (now (buffer .exit)) ⌝ }
+    requires { ⌜ ShortRow (ruleOf rule) (now label) × RightFields (ruleOf rule) (now stamp) (now «data») ⌝ }
+    ensures { λ r. ⌜ Wrote (writeBy mode (ruleOf rule) (groupOf (now (label .entry)) (now (stamp .entry)) (now («data» .entry))) (length (now (buffer .entry)))) (now (buffer .entry)) r (now (buffer .exit)) ⌝ }
 {
     let span = reading::stamp_span(stamp.len());
     let size = label.len() + 1 + span + data.len() + 4;
     if buffer.len() < size {
         return stop(Refusal::NoRoom, buffer);
     }
-    let mark = rule.mark;
+    let mark = fields::mark_of(rule);
     let count = put_group(mode, mark, label, stamp, data, buffer);
     Written {
         outcome: Outcome::Done,

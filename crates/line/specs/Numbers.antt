@@ -49,7 +49,7 @@ numberOf Nothing = 0
 numberOf (Accepted fields) = 1
 numberOf (Told notice) = numberOfNotice notice
 
--- "0: an opening .. that is not refused"; "19: mode not 0 or 1"
+-- "0: an opening .. that is not refused"; "19: a mode not 0 to 2"
 abbrev pub numberOfOpening : Opening → ℕ
 numberOfOpening (Opened l) = 0
 numberOfOpening ModeUnknown = 19

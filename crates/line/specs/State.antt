@@ -45,6 +45,6 @@ stateOf mode (Group flaw damaged overlong) n =
       length = n;
     }
 
--- "19: mode not 0 or 1"
+-- "19: a mode not 0 to 2"
 unfoldable pub openingOf : ℕ → Opening
 openingOf mode = pick (isMode mode) (Opened (stateOf mode Outside 0)) ModeUnknown

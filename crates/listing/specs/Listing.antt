@@ -35,9 +35,9 @@ unfoldable pub linesFor : List LineAnswer → List ℕ
 linesFor [] = []
 linesFor (a ∷ more) = lineFor a ++ linesFor more
 
--- "`H` or `S`", as they stand: mode 0 is historic, mode 1 is standard
+-- "`H` or `S`", as they stand: mode 0 is historic, mode 1 is standard; "`P` begins" a capture of mode 2 (M-100)
 unfoldable pub modeBy : ℕ → Option ℕ
-modeBy letter = pick (eqb letter 0x48) (some 0) (pick (eqb letter 0x53) (some 1) none)
+modeBy letter = pick (eqb letter 0x48) (some 0) (pick (eqb letter 0x53) (some 1) (pick (eqb letter 0x50) (some 2) none))
 
 -- "Bad capture: `20`"
 abbrev pub bad : List ℕ
@@ -47,7 +47,7 @@ abbrev pub listingIn : Option ℕ → List ℕ → List ℕ
 listingIn none bytes = bad
 listingIn (some mode) bytes = linesFor (answers mode outside bytes)
 
--- all that is written for all that is read; bad is a "capture empty or not begun by H or S"
+-- all that is written for all that is read; bad is a "capture empty or not begun by H, S or P"
 unfoldable pub listing : List ℕ → List ℕ
 listing [] = bad
 listing (letter ∷ bytes) = listingIn (modeBy letter) bytes

@@ -1,6 +1,6 @@
-// Lists the answers to a captured line: standard input is `H` (historic) or `S` (standard), then the wire bytes of the
-// line. Each answer gives a line: its number and, for an accepted group, label, stamp or `-`, and data, each after a
-// space. A capture that is empty, or begins with another byte, gives the line `20`.
+// Lists the answers to a captured line: standard input is `H` (historic), `S` (standard) or `P` (the business meter
+// PME-PMI), then the wire bytes of the line. Each answer gives a line: its number and, for an accepted group, label, stamp or
+// `-`, and data, each after a space. A capture that is empty, or begins with another byte, gives the line `20`.
 //
 // usage: ./espandim listing < CAPTURE
 //
@@ -110,6 +110,7 @@ fn open_by(letter: u8) -> Opening
     match letter {
         b'H' => line::open(0),
         b'S' => line::open(1),
+        b'P' => line::open(2),
         _ => Opening::ModeUnknown,
     }
 }

@@ -39,7 +39,7 @@ deliveryDue a bytes = pick (isKnown (a .mode)) (pick (leb (length (bytesWaiting 
 
 -- the number of a call that follows others: "Opening: 16, 19. Delivery: 16, 17, 15. Round: 18."
 abbrev pub numberDue : List Call → Call → ℕ
-numberDue before (opens i mode) = pick (leb 8 i) 16 (pick (ltb mode 2) 0 19)
+numberDue before (opens i mode) = pick (leb 8 i) 16 (pick (ltb mode 3) 0 19)
 numberDue before (delivers i bytes) = pick (leb 8 i) 16 (deliveryDue (accountOf i before) bytes)
 numberDue before (serves sheet) = pick (leb 1080 (length sheet)) 0 18
 

@@ -1,6 +1,6 @@
-// Counts the answers to a captured line: standard input is `H` (historic) or `S` (standard), then the wire bytes of the
-// line, as for `listing`. It writes a line for each number from 1 to 14: the number, a space, and how many answers had
-// it. A capture that is empty, or begins with another byte, gives the line `20`.
+// Counts the answers to a captured line: standard input is `H` (historic), `S` (standard) or `P` (the business meter
+// PME-PMI), then the wire bytes of the line, as for `listing`. It writes a line for each number from 1 to 14: the number, a
+// space, and how many answers had it. A capture that is empty, or begins with another byte, gives the line `20`.
 //
 // usage: ./espandim tally < CAPTURE
 //
@@ -126,6 +126,7 @@ fn begin(count: isize, letter: u8) -> Opening {
     match letter {
         b'H' => line::open(0),
         b'S' => line::open(1),
+        b'P' => line::open(2),
         _ => Opening::ModeUnknown,
     }
 }

@@ -26,7 +26,8 @@ impl Capture {
         let mode = match bytes.first() {
             Some(b'H') => Mode::Historic,
             Some(b'S') => Mode::Standard,
-            _ => return Err(io::Error::other("neither H nor S")),
+            Some(b'P') => Mode::Business,
+            _ => return Err(io::Error::other("none of H, S and P")),
         };
         Ok(Capture {
             mode,

@@ -5,7 +5,7 @@ use espandim::{
     judge, judge_raw, write, write_raw, Answer, Group, Mode, Notice, Refusal, Station, MOST_WRITTEN,
 };
 
-use Mode::{Historic, Standard};
+use Mode::{Business, Historic, Standard};
 
 /// A group's fields.
 fn fields<'a>(label: &'a [u8], stamp: &'a [u8], data: &'a [u8]) -> Group<'a> {
@@ -40,6 +40,7 @@ fn the_figures_p1_to_p9() {
     // P9
     assert_eq!(judge(Historic, b""), Err(Refusal::Misshapen));
     assert_eq!(judge(Standard, b""), Err(Refusal::Misshapen));
+    assert_eq!(judge(Business, b""), Err(Refusal::Misshapen));
     assert_eq!(Refusal::CheckWrong.number(), 10);
     assert_eq!(Refusal::Misshapen.number(), 9);
 }
@@ -56,15 +57,16 @@ fn the_fields_are_parts_of_the_callers_own_bytes() {
 #[test]
 fn judging_refuses_with_19_before_8_before_the_rest() {
     let long = [b'A'; 129];
-    for mode in [2, 3, 255, 256, 257, u32::MAX] {
-        for content in [&long[..], b"", b"URMS1\t230\t?"] {
+    for mode in [3, 4, 255, 256, 257, 258, u32::MAX] {
+        for content in [&long[..], b"", b"URMS1\t230\t?", b"PREAVIS DEP 3"] {
             assert_eq!(judge_raw(mode, content), Err(Refusal::ModeUnknown));
         }
     }
     assert_eq!(Refusal::ModeUnknown.number(), 19);
-    assert_eq!(judge_raw(1, &long), Err(Refusal::TooLong));
-    assert_eq!(judge_raw(0, &long), Err(Refusal::TooLong));
-    assert_eq!(judge_raw(1, &long[..128]), Err(Refusal::Misshapen));
+    for mode in 0..3 {
+        assert_eq!(judge_raw(mode, &long), Err(Refusal::TooLong));
+        assert_eq!(judge_raw(mode, &long[..128]), Err(Refusal::Misshapen));
+    }
     assert_eq!(
         judge_raw(1, b"URMS1\t230\t?"),
         Ok(fields(b"URMS1", b"", b"230"))
@@ -72,6 +74,10 @@ fn judging_refuses_with_19_before_8_before_the_rest() {
     assert_eq!(
         judge_raw(0, b"IINST 002 Y"),
         Ok(fields(b"IINST", b"", b"002"))
+    );
+    assert_eq!(
+        judge_raw(2, b"PREAVIS DEP 3"),
+        Ok(fields(b"PREAVIS", b"", b"DEP"))
     );
 }
 
@@ -133,6 +139,132 @@ const HISTORIC: [&str; 9] = [
     "T2 PPOT",
 ];
 
+/// Document 003, 2.9: the labels of Tableau 10, and right data of each, the first as short and the last as long as any.
+/// Where the table and 2.9.3 leave a choice (a text or another, `kW` or `kVA`, a comma or a point), there is one of each.
+const BUSINESS: [(&str, &[&str]); 21] = [
+    ("TRAME", &["TEST"]),
+    ("ADS", &["021377004518", "ABCDEF ~!@|z"]),
+    (
+        "MESURES1 MESURES2",
+        &["TJ MU     ", "BT 5 SUP36", "HTA 8     ", "          "],
+    ),
+    // No calendar: "dates in it are data".
+    (
+        "DATE DATEPA1 DATEPA2 DATEPA3 DATEPA4 DATEPA5 DATEPA6 DebP DebP-1 FinP-1 DebP_2 DebP-1_2 FinP-1_2",
+        &["25/12/08 22:35:18", "00/00/00 00:00:00", "99/99/99 99:99:99"],
+    ),
+    ("EA_s EA_i", &["0Wh", "15282Wh", "9999999Wh"]),
+    ("ER+_s ER-_s ER+_i ER-_i", &["0varh", "9999999varh"]),
+    ("EAPP_s EAPP_i", &["5VAh", "9999999VAh"]),
+    (
+        "PTCOUR1 PTCOUR2",
+        &["P", " ", "P ", "PM", "HPH", "XXX", "   ", " P ", "P  "],
+    ),
+    ("TARIFDYN", &["ACTIF", "INACTIF"]),
+    ("ETATDYN1 ETATDYN2", &["000", "HPE", "P  "]),
+    (
+        "PREAVIS1 PREAVIS2",
+        &["TD-HPH", "TD-PM ", "TD- ? ", "TD-?  ", "TD-   "],
+    ),
+    (
+        "TDYN1CD TDYN1CF TDYN1FD TDYN1FF TDYN2CD TDYN2CF TDYN2FD TDYN2FF",
+        &["25/12/08 06:00:00-HPH", "25/12/08 06:00:00-P  "],
+    ),
+    ("MODE", &["CONTROLE"]),
+    ("CONFIG", &["PROD", "CONSO"]),
+    (
+        "PA1_s PA2_s PA3_s PA4_s PA5_s PA6_s PA1_i PA2_i PA3_i PA4_i PA5_i PA6_i",
+        &["0kW", "0TkW", "012kW", "32767kW", "99999kW", "32767TkW"],
+    ),
+    (
+        "EAP_s EAP_i EaP-1_s EaP-1_i EaP_s2 EaP-1_s2",
+        &["0kWh", "48211kWh", "9999999kWh"],
+    ),
+    (
+        "ER+P_s ER-P_s ER+P_i ER-P_i ER+P-1_s ER-P-1_s ER+P-1_i ER-P-1_i",
+        &["0kvarh", "9999999kvarh"],
+    ),
+    (
+        "PS PMAX_s PMAX_i",
+        &["0kW", "0kVA", "36kVA", "250kW", "99999kW", "32767kVA"],
+    ),
+    ("PREAVIS", &["DEP", "DEP "]),
+    ("PA1MN", &["0kW", "12kW", "32767kW"]),
+    (
+        "TGPHI_s TGPHI_i",
+        &[
+            "0,25", "0.25", "-0,25", "-0.25", "12,34", "-12.34", "123.45", "-123,45", "1234,56",
+            "-9999,99", "99999.99", "99999,99",
+        ],
+    ),
+];
+
+/// Data of a length that their labels have, and which fit none of their forms: 14. A wrong unit or text, a sign or a space
+/// where none stands, and, for TARIFDYN, a length between those of its two texts.
+const UNFIT: [(&str, &[&str]); 20] = [
+    ("TRAME", &["test", "TES ", " TES", "REEL"]),
+    (
+        "DATE",
+        &[
+            "25/12/08 22/35/18",
+            "25/12/08-22:35:18",
+            "25.12.08 22:35:18",
+        ],
+    ),
+    (
+        "DebP-1_2",
+        &[
+            "25/12/08  2:35:18",
+            "25/12/2008  22:35",
+            "H0812252235180000",
+        ],
+    ),
+    (
+        "EA_s",
+        &[
+            "12kWh", "5VAh", "15 Wh", "-15Wh", "1,5Wh", "Wh1", "15WH", "   ",
+        ],
+    ),
+    (
+        "ER-_i",
+        &["12VAh", "1kvarh", "12 varh", "+12varh", "12VARH"],
+    ),
+    ("EAPP_s", &["12Wh", "5varh", "5kVAh", "5 VAh"]),
+    (
+        "TARIFDYN",
+        &["NACTIF", "ACTIFS", "ACTIF ", "INACTIV", "actif", " ACTIF"],
+    ),
+    ("PREAVIS1", &["TD HPH", "td-HPH", "HPH-TD", "DEP   "]),
+    (
+        "TDYN1CF",
+        &["25/12/08 22:00:00 HPH", "25/12/08 22/00/00-HPH"],
+    ),
+    ("MODE", &["controle", "CONTROL ", " CONTROL"]),
+    ("CONFIG", &["CONS", "PRODU", "PROD ", "prod"]),
+    (
+        "PA1_s",
+        &[
+            "123456kW", "12kVA", "0 kW", "12H.kW", "12tkW", "12TTkW", "-12kW", "TkW",
+        ],
+    ),
+    ("EAP_s", &["42Wh", "7kvarh", "42 kWh", "42kVAh", "kWh42"]),
+    ("ER+P-1_i", &["123kWh", "12varh", "12 kvarh"]),
+    (
+        "PS",
+        &["123456kW", "36kVW", "36VA", "36TkW", "36 kVA", "kVA"],
+    ),
+    ("PMAX_i", &["123456kW", "36kWA", "36kva", "-36kW"]),
+    ("PREAVIS", &["EJP", "DEPX", " DEP", "dep"]),
+    ("PA1MN", &["12TkW", "12kVA", "-12kW", "12 kW"]),
+    (
+        "TGPHI_s",
+        &[
+            "12-,34", "+0,25", "-,25", " 0,25", "0,250", "0;25", "0,2 ", "123456,7",
+        ],
+    ),
+    ("TGPHI_i", &["--1,00", "-12345,6", "1,000,00", "99999999"]),
+];
+
 /// "The season is H or E; for DPM1 to DPM3 and FPM1 to FPM3 it is SP and nothing else." Document 02, M-101: h and e "are right
 /// wherever H and E are right, in reader and writer, and stay wrong for DPM and FPM".
 fn seasons_of(label: &str) -> &'static [u8] {
@@ -160,6 +292,36 @@ fn data_of(kind: &str, width: usize) -> Vec<u8> {
     characters.iter().copied().cycle().take(width).collect()
 }
 
+/// Writes a right group and has it read back, given alone and on a line. Gives how many bytes it has on the wire.
+fn reads_back(mode: Mode, expected: Group<'_>) -> usize {
+    let Group { label, stamp, data } = expected;
+    let content = content(mode, label, stamp, data);
+    // The writer's bytes are those that the documents' sentences make.
+    let written = write(mode, label, stamp, data).unwrap();
+    assert_eq!(written.as_bytes(), group(&content));
+    // Without the parity bits, LF and CR the reader is given what it was.
+    let bytes = written.as_bytes();
+    let characters: Vec<u8> = bytes.iter().map(|byte| byte & 0x7F).collect();
+    let inside = &characters[1..characters.len() - 1];
+    assert_eq!(judge(mode, inside), Ok(expected));
+    // So is a line.
+    let mut station = Station::new();
+    station.open(6, mode).unwrap();
+    station.deliver(6, &[STX]).unwrap();
+    station.deliver(6, bytes).unwrap();
+    station.deliver(6, &[ETX]).unwrap();
+    let mut round = station.round();
+    if bytes.len() > 63 {
+        assert_eq!(round.answer(6), None);
+        round = station.round();
+    }
+    let accepted = Answer::Accepted { label, stamp, data };
+    assert_eq!(round.answer(6), Some(accepted));
+    let sound = Answer::Told(Notice::FrameSound);
+    assert_eq!(station.round().answer(6), Some(sound));
+    bytes.len()
+}
+
 #[test]
 fn what_is_written_for_every_label_reads_back() {
     let mut labels = [0, 0];
@@ -178,35 +340,8 @@ fn what_is_written_for_every_label_reads_back() {
             } else {
                 b""
             };
-            let name = label;
-            let expected = fields(label.as_bytes(), stamp, &data);
-            let Group { label, stamp, data } = expected;
-            let content = content(mode, label, stamp, data);
-
-            // The writer's bytes are those that document 01's sentences make.
-            let written = write(mode, label, stamp, data).unwrap();
-            assert_eq!(written.as_bytes(), group(&content));
-            // Without the parity bits, LF and CR the reader is given what it was.
-            let bytes = written.as_bytes();
-            longest = longest.max((bytes.len(), name));
-            let characters: Vec<u8> = bytes.iter().map(|byte| byte & 0x7F).collect();
-            let inside = &characters[1..characters.len() - 1];
-            assert_eq!(judge(mode, inside), Ok(expected));
-            // So is a line.
-            let mut station = Station::new();
-            station.open(6, mode).unwrap();
-            station.deliver(6, &[STX]).unwrap();
-            station.deliver(6, bytes).unwrap();
-            station.deliver(6, &[ETX]).unwrap();
-            let mut round = station.round();
-            if bytes.len() > 63 {
-                assert_eq!(round.answer(6), None);
-                round = station.round();
-            }
-            let accepted = Answer::Accepted { label, stamp, data };
-            assert_eq!(round.answer(6), Some(accepted));
-            let sound = Answer::Told(Notice::FrameSound);
-            assert_eq!(station.round().answer(6), Some(sound));
+            let length = reads_back(mode, fields(label.as_bytes(), stamp, &data));
+            longest = longest.max((length, label));
 
             // A stamp where there must be none, or none where there must be one, and data one too long.
             let wrong: &[u8] = if stamp.is_empty() {
@@ -214,13 +349,13 @@ fn what_is_written_for_every_label_reads_back() {
             } else {
                 b""
             };
-            let long = [data, b"0"].concat();
+            let long = [&data[..], b"0"].concat();
             assert_eq!(
-                write(mode, label, wrong, data).unwrap_err(),
+                write(mode, label.as_bytes(), wrong, &data).unwrap_err(),
                 Refusal::StampWrong
             );
             assert_eq!(
-                write(mode, label, stamp, &long).unwrap_err(),
+                write(mode, label.as_bytes(), stamp, &long).unwrap_err(),
                 Refusal::WidthWrong
             );
         }
@@ -289,6 +424,161 @@ fn a_line_shows_the_season_letter_as_it_came() {
     assert_eq!(listing(Standard, &bytes), expected);
 }
 
+/// Reader and writer alike refuse these data of a business meter's label.
+fn refused(label: &str, data: &[u8], refusal: Refusal) {
+    let label = label.as_bytes();
+    let content = content(Business, label, b"", data);
+    assert_eq!(judge(Business, &content), Err(refusal));
+    assert_eq!(write(Business, label, b"", data).unwrap_err(), refusal);
+}
+
+#[test]
+fn what_is_written_for_every_label_of_a_business_meter_reads_back() {
+    let mut labels = std::collections::BTreeSet::new();
+    let mut longest = (0, "");
+    for (names, right) in BUSINESS {
+        let (least, most) = (right[0], right[right.len() - 1]);
+        for label in names.split(' ') {
+            assert!(labels.insert(label), "{label} stands there twice");
+            for data in right {
+                assert!((least.len()..=most.len()).contains(&data.len()));
+                let length = reads_back(Business, fields(label.as_bytes(), b"", data.as_bytes()));
+                longest = longest.max((length, label));
+            }
+            // "13 is a length outside these", whatever the characters are.
+            refused(label, &least.as_bytes()[1..], Refusal::WidthWrong);
+            refused(label, &vec![b' '; least.len() - 1], Refusal::WidthWrong);
+            refused(
+                label,
+                &[most.as_bytes(), b"0"].concat(),
+                Refusal::WidthWrong,
+            );
+            refused(label, &vec![b' '; most.len() + 1], Refusal::WidthWrong);
+        }
+    }
+    assert_eq!(labels.len(), 75);
+    assert_eq!(longest, (33, "TDYN2FF"));
+}
+
+#[test]
+fn data_that_fit_no_form_of_a_business_meters_label_are_14() {
+    for (label, unfit) in UNFIT {
+        for data in unfit {
+            refused(label, data.as_bytes(), Refusal::KindWrong);
+        }
+    }
+    // Eight characters are right with the `T` of a point that was cut short; PA1MN has no such form, and at most seven.
+    refused("PA1_s", b"123456kW", Refusal::KindWrong);
+    refused("PA1MN", b"123456kW", Refusal::WidthWrong);
+    // No field takes a character outside 0x20 to 0x7E.
+    for (names, right) in BUSINESS {
+        let most = right[right.len() - 1].as_bytes();
+        for label in names.split(' ') {
+            for place in 0..most.len() {
+                for character in [0x00, 0x09, 0x1F, 0x7F, 0x80, 0xA0, 0xFF] {
+                    let mut data = most.to_vec();
+                    data[place] = character;
+                    refused(label, &data, Refusal::KindWrong);
+                }
+            }
+        }
+    }
+}
+
+/// M-100: "No row of mode 2 is stamped; dates in it are data."
+#[test]
+fn a_business_meters_group_takes_no_stamp() {
+    let stamps: [&[u8]; 5] = [
+        b"H081225223518",
+        b" 081225223518",
+        b"25/12/08 22:35:18",
+        b" ",
+        b"-",
+    ];
+    for (names, right) in BUSINESS {
+        for label in names.split(' ') {
+            for stamp in stamps {
+                // Whether the data are right or not.
+                for data in [right[0], ""] {
+                    let written = write(Business, label.as_bytes(), stamp, data.as_bytes());
+                    assert_eq!(written.unwrap_err(), Refusal::StampWrong);
+                }
+            }
+        }
+    }
+    // Read, what could be one is part of the data, and so is the separator behind it.
+    let stamped = content(Business, b"DATE", b"H081225223518", b"25/12/08 22:35:18");
+    assert_eq!(judge(Business, &stamped), Err(Refusal::WidthWrong));
+}
+
+/// Document 003, 2.9.1 and 1.5.2: the sum runs through the last of the data, as that of the historic meters does.
+#[test]
+fn spaces_of_a_business_meters_data_are_counted_and_the_final_separator_is_not() {
+    let preavis = |data| Ok(fields(b"PREAVIS", b"", data));
+    assert_eq!(judge(Business, b"PREAVIS DEP 3"), preavis(b"DEP"));
+    assert_eq!(judge(Business, b"PREAVIS DEP S"), Err(Refusal::CheckWrong));
+    // The space that some meters send behind DEP is data.
+    assert_eq!(judge(Business, b"PREAVIS DEP  S"), preavis(b"DEP "));
+    assert_eq!(judge(Business, b"PREAVIS DEP  3"), Err(Refusal::CheckWrong));
+    // Two spaces more leave the sum as it is.
+    let period = |data| Ok(fields(b"PTCOUR1", b"", data));
+    assert_eq!(judge(Business, b"PTCOUR1 P ^"), period(b"P"));
+    assert_eq!(judge(Business, b"PTCOUR1 P   ^"), period(b"P  "));
+    assert_eq!(judge(Business, b"PTCOUR1  P  ^"), period(b" P "));
+    assert_eq!(judge(Business, b"PTCOUR1     ."), period(b"   "));
+    let tariff = fields(b"MESURES1", b"", b"HTA 5     ");
+    assert_eq!(judge(Business, b"MESURES1 HTA 5      '"), Ok(tariff));
+    // A date, with the space before its hour.
+    let date = fields(b"DATE", b"", b"25/12/08 22:35:18");
+    assert_eq!(judge(Business, b"DATE 25/12/08 22:35:18 7"), Ok(date));
+    // A check character that is itself a space, as in P5.
+    let energy = fields(b"EAPP_s", b"", b"18VAh");
+    assert_eq!(judge(Business, b"EAPP_s 18VAh  "), Ok(energy));
+    // No data at all: the separator behind the label is not the final one.
+    assert_eq!(judge(Business, b"PTCOUR1  N"), Err(Refusal::WidthWrong));
+    assert_eq!(judge(Business, b"PTCOUR1 N"), Err(Refusal::Misshapen));
+}
+
+/// The labels of Tableau 10 byte for byte, but for an accent that seven bits do not have; and to each mode its own list.
+#[test]
+fn a_label_that_is_not_in_the_business_meters_list_is_11() {
+    let date = b"25/12/08 22:35:18";
+    let unknown = [
+        ("D{bP", &date[..]),
+        ("DEBP", date),
+        ("debP", date),
+        ("DATEPA0", date),
+        ("DATEPA7", date),
+        ("PA7_s", b"0kW"),
+        ("PA1", b"0kW"),
+        ("PA1_S", b"0kW"),
+        ("EaP_s", b"0kWh"),
+        ("EAP-1_s", b"0kWh"),
+        ("EAP_s2", b"0kWh"),
+        ("EaP_i2", b"0kWh"),
+        ("ER_s", b"0varh"),
+        ("PTCOUR", b"HPH"),
+        ("PTCOUR3", b"HPH"),
+        ("TDYN1", b"25/12/08 06:00:00-HPH"),
+        ("TRAM", b"TEST"),
+        ("TRAMES", b"TEST"),
+    ];
+    for (label, data) in unknown {
+        refused(label, data, Refusal::LabelUnknown);
+    }
+    for row in HISTORIC {
+        for label in row.split(' ').skip(1) {
+            refused(label, b"000000000", Refusal::LabelUnknown);
+        }
+    }
+    for (names, right) in BUSINESS {
+        for label in names.split(' ') {
+            let content = content(Historic, label.as_bytes(), b"", right[0].as_bytes());
+            assert_eq!(judge(Historic, &content), Err(Refusal::LabelUnknown));
+        }
+    }
+}
+
 #[test]
 fn the_group_of_the_listing_is_written_byte_for_byte() {
     let written = write(Standard, b"URMS1", b"", b"230").unwrap();
@@ -301,7 +591,7 @@ fn writing_is_refused_in_the_order_19_11_12_13_14_15_and_changes_no_byte() {
     let stamp = b"H081225223518";
     // Mode, fields, room in the buffer, and the number. All is wrong at first; then fault after fault is mended.
     let cases = [
-        (2, fields(b"NONE", stamp, b"2X"), 0, 19),
+        (3, fields(b"NONE", stamp, b"2X"), 0, 19),
         (1, fields(b"NONE", stamp, b"2X"), 0, 11),
         (1, fields(b"URMS1", stamp, b"2X"), 0, 12),
         (1, fields(b"URMS1", b"", b"2X"), 0, 13),
@@ -311,6 +601,15 @@ fn writing_is_refused_in_the_order_19_11_12_13_14_15_and_changes_no_byte() {
         (256, fields(b"URMS1", b"", b"230"), 130, 19),
         (0, fields(b"URMS1", b"", b"230"), 130, 11),
         (1, fields(b"UMOY1", b"", b"230"), 130, 12),
+        // The same of a business meter, whose labels have no stamp.
+        (2, fields(b"NONE", stamp, b"1234567kW"), 0, 11),
+        (2, fields(b"PS", stamp, b"1234567kW"), 0, 12),
+        (2, fields(b"PS", b"", b"1234567kW"), 0, 13),
+        (2, fields(b"PS", b"", b"123456kW"), 0, 14),
+        (2, fields(b"PS", b"", b"12345kW"), 0, 15),
+        (2, fields(b"PS", b"", b"12345kW"), 13, 15),
+        (258, fields(b"PS", b"", b"12345kW"), 130, 19),
+        (0, fields(b"PS", b"", b"12345kW"), 130, 11),
     ];
     for (mode, Group { label, stamp, data }, room, number) in cases {
         let mut buffer = [0xEE; 130];
@@ -347,5 +646,6 @@ fn a_refusal_has_one_of_the_numbers_8_to_19_and_says_it() {
             assert!(said.to_string().ends_with(&format!("({number})")));
         }
     }
-    assert_eq!((Historic.number(), Standard.number()), (0, 1));
+    let modes = [Historic, Standard, Business].map(Mode::number);
+    assert_eq!(modes, [0, 1, 2]);
 }

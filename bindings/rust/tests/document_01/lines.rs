@@ -73,6 +73,61 @@ fn a_refused_group_flaws_its_frame() {
     }
 }
 
+/// Document 02, M-100, with document 003's own example of a frame in the test mode (2.9.3 (W)).
+#[test]
+fn a_business_meters_frames() {
+    let test = [
+        &b"TRAME TEST 9"[..],
+        b"ADS 000000000000 X",
+        b"PTCOUR1 HPE +",
+        b"PREAVIS DEP 3",
+    ];
+    // Spaces that belong to the data: between date and hour, behind a short name, around a question mark.
+    let spaces = [
+        &b"MESURES1 HTA 5      '"[..],
+        b"DATE 25/12/08 22:35:18 7",
+        b"PTCOUR1 P   ^",
+        b"PREAVIS2 TD- ?  P",
+    ];
+    let expected = [
+        "1 TRAME - TEST",
+        "1 ADS - 000000000000",
+        "1 PTCOUR1 - HPE",
+        "1 PREAVIS - DEP",
+        "2",
+        "1 MESURES1 - HTA 5     ",
+        "1 DATE - 25/12/08 22:35:18",
+        "1 PTCOUR1 - P  ",
+        "1 PREAVIS2 - TD- ? ",
+        "2",
+    ];
+    let bytes = [frame(&test), frame(&spaces)].concat();
+    assert_eq!(listing(Mode::Business, &bytes), expected);
+}
+
+#[test]
+fn a_refused_group_flaws_a_business_meters_frame() {
+    let business = |label: &[u8], data: &[u8]| content(Mode::Business, label, b"", data);
+    let cases: [(Vec<u8>, &str); 8] = [
+        (vec![b'A'; 129], "8"),
+        (b"PREAVISDEP 3".to_vec(), "9"),
+        (b"PREAVIS DEP S".to_vec(), "10"), // the final separator counted
+        (business(b"PAPP", b"00750"), "11"),
+        (business(b"PA1MN", b"123456kW"), "13"),
+        (business(b"PA1_s", b"123456kW"), "14"),
+        (business(b"TARIFDYN", b"NACTIF"), "14"),
+        // What would be a stamp elsewhere is part of the data here.
+        (business(b"PS", b"H081225223518 36kVA"), "13"),
+    ];
+    for (refused, number) in cases {
+        let bytes = frame(&[&refused, b"PREAVIS DEP 3"]);
+        assert_eq!(
+            listing(Mode::Business, &bytes),
+            [number, "1 PREAVIS - DEP", "3"]
+        );
+    }
+}
+
 #[test]
 fn a_notice_has_one_of_the_numbers_2_to_14() {
     for number in 0..300 {

@@ -51,18 +51,19 @@ fn an_opening_is_refused_with_16_before_19() {
             station.open(line, Mode::Historic)
         });
         refused(&mut station, 16, |station| station.open_raw(line, 1));
-        for mode in [2, 256, u32::MAX] {
+        for mode in [3, 256, u32::MAX] {
             refused(&mut station, 16, |station| station.open_raw(line, mode));
         }
     }
-    // 256 and 257 have the low bytes of modes 0 and 1; line 3 is open and line 7 is closed.
-    for mode in [2, 3, 255, 256, 257, 65_536, u32::MAX] {
+    // 256, 257 and 258 have the low bytes of modes 0 to 2; line 3 is open and line 7 is closed.
+    for mode in [3, 4, 255, 256, 257, 258, 65_536, u32::MAX] {
         for line in [3, 7] {
             refused(&mut station, 19, |station| station.open_raw(line, mode));
         }
     }
-    station.open_raw(7, 0).unwrap();
-    station.open_raw(7, 1).unwrap();
+    for mode in 0..3 {
+        station.open_raw(7, mode).unwrap();
+    }
 }
 
 #[test]
@@ -80,6 +81,32 @@ fn an_opening_empties_the_inbox_and_puts_the_line_outside() {
     let round = station.round();
     let answer = round.answer(3).unwrap();
     assert_eq!(answer.to_string(), "1 PAPP - 00750");
+}
+
+/// Document 02, M-100: a third mode. Each line speaks its own, and takes no group of another's.
+#[test]
+fn lines_of_three_modes_stand_beside_each_other() {
+    let contents: [&[u8]; 3] = [b"PAPP 00750 -", P1, b"DATE 25/12/08 22:35:18 7"];
+    let lists = [
+        ["1 PAPP - 00750", "9", "11"],
+        ["9", "1 URMS1 - 230", "9"],
+        ["11", "9", "1 DATE - 25/12/08 22:35:18"],
+    ];
+    let mut station = Station::new();
+    for (mode, list) in (0..3).zip(lists) {
+        // Line 5 had another mode before.
+        for line in [mode, 5] {
+            station.open_raw(line, mode).unwrap();
+            station.deliver(line, &frame(&contents)).unwrap();
+        }
+        for said in list.into_iter().chain(["3"]) {
+            let round = station.round();
+            for line in [mode, 5] {
+                assert_eq!(round.answer(line).unwrap().to_string(), said);
+            }
+        }
+        assert!(station.round().is_idle());
+    }
 }
 
 #[test]

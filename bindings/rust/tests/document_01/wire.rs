@@ -1,4 +1,4 @@
-//! What the tests hand in: wire bytes and groups, made by document 01's sentences and not by the archive.
+//! What the tests hand in: wire bytes and groups, made by the documents' sentences and not by the archive.
 
 use espandim::{Mode, Station};
 
@@ -40,10 +40,11 @@ pub fn frame(contents: &[&[u8]]) -> Vec<u8> {
 }
 
 /// The content of the group with these fields. "Check character: add the character codes, take the remainder by 64, add
-/// 32. Historic: .. the final separator is not counted. Standard: it is counted too".
+/// 32. Historic: .. the final separator is not counted. Standard: it is counted too". Document 003, 2.9.1, of the business
+/// meter: all separators are a space, and the sum is "mode de calcul n°1", which is that of the historic meters (1.5.2).
 pub fn content(mode: Mode, label: &[u8], stamp: &[u8], data: &[u8]) -> Vec<u8> {
     let separator = match mode {
-        Mode::Historic => b' ',
+        Mode::Historic | Mode::Business => b' ',
         Mode::Standard => b'\t',
     };
     let mut content = [label, &[separator]].concat();

@@ -65,8 +65,8 @@ fn words_are_those_of_their_numbers() {
         (16, "8 or more"),
         (17, "closed"),
         (18, "1,080"),
-        (19, "mode not"),
-        (20, "capture"),
+        (19, "mode not 0 to 2"),
+        (20, "H, S or P"),
     ];
     for (number, part) in telling {
         assert!(words(number).unwrap().contains(part), "{number}: {part}");
@@ -90,12 +90,13 @@ fn notices_and_refusals_say_their_words_and_their_number() {
 }
 
 #[test]
-fn a_mode_has_the_number_0_or_1() {
+fn a_mode_has_one_of_the_numbers_0_to_2() {
     assert_eq!(Mode::from_number(0), Some(Mode::Historic));
     assert_eq!(Mode::from_number(1), Some(Mode::Standard));
-    for number in [0, 1, 2, 3, 255, 256, 257, u32::MAX] {
+    assert_eq!(Mode::from_number(2), Some(Mode::Business));
+    for number in [0, 1, 2, 3, 4, 255, 256, 257, 258, u32::MAX] {
         let mode = Mode::from_number(number);
-        let expected = (number < 2).then_some(number);
+        let expected = (number < 3).then_some(number);
         assert_eq!(mode.map(Mode::number), expected);
         assert_eq!(Mode::try_from(number), mode.ok_or(Refusal::ModeUnknown));
     }

@@ -26,7 +26,7 @@ use Rattle.groups.specs.Laws.Conditions.{named, named-numbers, read-by-c
 use Rattle.groups.specs.Laws.OnTheWire.{arePlain, written-plain, written-small, on-length, off-on, on-sound}
 use Rattle.groups.specs.Laws.Unknown.{not-mode, judging-no-mode}
 use Rattle.groups.specs.declared.Mode.{Mode}
-use Rattle.groups.specs.declared.Mode.the-variants.{Historic, Standard}
+use Rattle.groups.specs.declared.Mode.the-variants.{Historic, Standard, Business}
 use Rattle.groups.specs.declared.Refusal.{Refusal}
 
 -- ---- Judging and composing
@@ -83,7 +83,8 @@ pub judged-first : (number : ℕ) (c : List ℕ)
 unfolding judging modeOf found givenWhen firstOf pick
 judged-first zero c = told-as (judging 0 c) ∙ read-number Historic c
 judged-first (suc zero) c = told-as (judging 1 c) ∙ read-number Standard c
-judged-first (suc (suc number)) c = rw (judging-no-mode (suc (suc number)) (omega arith) c)
+judged-first (suc (suc zero)) c = told-as (judging 2 c) ∙ read-number Business c
+judged-first (suc (suc (suc number))) c = rw (judging-no-mode (suc (suc (suc number))) (omega arith) c)
 
 module _ (number : ℕ) (m : Mode) (known : modeOf number ≡ some m) (c : List ℕ) where
   -- in a known mode judging is reading
@@ -115,13 +116,14 @@ first-told [] t = tt
 first-told ((n, true) ∷ more) t = and-yes (isJudged (n, true)) (every isJudged more) t .0
 first-told ((n, false) ∷ more) t = first-told more (and-yes (isJudged (n, false)) (every isJudged more) t .1)
 
--- judging in a known mode tells 1, or 8 to 14: "mode not 0 or 1" and "lent buffer too short" are not its answers
+-- judging in a known mode tells 1, or 8 to 14: "a mode not 0 to 2" and "lent buffer too short" are not its answers
 pub judged-number : (number : ℕ) → isMode number ≡ true → (c : List ℕ)
     → T (within 1 14 (numberOf (shown (judging number c) .verdict)))
 unfolding givenWhen firstOf pick conditions
 judged-number zero e c = rw (judged-first 0 c) (first-told (conditions Historic c) tt)
 judged-number (suc zero) e c = rw (judged-first 1 c) (first-told (conditions Standard c) tt)
-judged-number (suc (suc number)) e c = absurd (false≢true (sym (not-mode (suc (suc number)) (omega arith)) ∙ e))
+judged-number (suc (suc zero)) e c = rw (judged-first 2 c) (first-told (conditions Business c) tt)
+judged-number (suc (suc (suc number))) e c = absurd (false≢true (sym (not-mode (suc (suc (suc number))) (omega arith)) ∙ e))
 
 -- ---- Writing
 

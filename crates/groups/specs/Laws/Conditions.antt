@@ -11,35 +11,18 @@ use lib.ListN.{length, take, drop, getD, length-drop}
 use lib.Seq.{length-take-le, take-suc, split-at, drop-at, getD-take, getD-drop, take-take, take-add}
 use mir.Facts.{T-not-not, or-no, eqb-no}
 use borrow.Author.Tests.{eq-eqb, ne-eqb, lt-ltb, le-ltb}
-use Rattle.characters.specs.Answers.{Answer, refused, need, found, by-need, by-pick, firstOf}
+use Rattle.characters.specs.Answers.{Answer, refused, need, found, every, by-need, by-pick, firstOf}
 use Rattle.groups.specs.Modes.{separator, countedAtEnd}
+use Rattle.groups.specs.Formats.{Rule, isDrawn}
 use Rattle.groups.specs.Table.{rows, lookup}
 use Rattle.groups.specs.Stamps.{isStamped, stampAs}
-use Rattle.groups.specs.Fields.{widthRight, kindRight, checked}
+use Rattle.groups.specs.Fields.{checked}
 use Rattle.groups.specs.Groups.{Group, groupOf, total, check, fieldsOf, behindLabel, read}
-use Rattle.groups.specs.Conditions.{
-  firstAt,
-  labelOf,
-  bodyOf,
-  misshapen,
-  summed,
-  sumOf,
-  checkWrong,
-  unlisted,
-  stampFollowed,
-  stampWrong,
-  dataIn,
-  stampIn,
-  widthWrong,
-  kindWrong,
-  fieldConditions,
-  conditions,
-  markedFields,
-  fieldsAt,
-}
+use Rattle.groups.specs.Conditions.{firstAt, labelOf, bodyOf, misshapen, summed, sumOf, checkWrong, unlisted, stampFollowed, stampWrong, dataIn, stampIn, widthWrong, kindWrong, fieldConditions, conditions, markedFields, fieldsAt}
 use Rattle.groups.specs.Laws.Tests.{split, equal-or}
 use Rattle.groups.specs.Laws.Groups.{total-end}
-use Rattle.groups.specs.Laws.Stamps.{kinds-agree-in}
+use Rattle.groups.specs.Laws.Table.{listed-right}
+use Rattle.groups.specs.Laws.Made.{kind-agrees, width-agrees}
 use Rattle.groups.specs.Laws.Named.{firstRefusal, numberAs, numbered, first-number}
 use Rattle.groups.specs.Laws.Places.{
   fields-plain,
@@ -55,10 +38,9 @@ use Rattle.groups.specs.Laws.Places.{
   read-cut,
 }
 use Rattle.groups.specs.declared.Mode.{Mode}
-use Rattle.groups.specs.declared.Mode.the-variants.{Historic, Standard}
+use Rattle.groups.specs.declared.Mode.the-variants.{Historic, Standard, Business}
 use Rattle.groups.specs.declared.Refusal.{Refusal}
 use Rattle.groups.specs.declared.Refusal.the-variants.{TooLong, Misshapen, CheckWrong, LabelUnknown, StampWrong, WidthWrong, KindWrong}
-use Rattle.groups.specs.declared.table.Rule.{Rule}
 
 -- ---- The first separator
 
@@ -190,6 +172,7 @@ sum-is (suc n) c h = rw (sum-is n c (omega arith), take-suc c n 0 h, total-end)
 sum-right : (m : Mode) (c : List ℕ) → Shaped m c
     → sumOf (summed m c) c ≡ total (labelOf m c ++ separator m ∷ bodyOf m c) + countedAtEnd m
 sum-right Historic c s = rw (sum-is (length c - 2) c (omega arith), front Historic c s) (omega arith)
+sum-right Business c s = rw (sum-is (length c - 2) c (omega arith), front Business c s) (omega arith)
 sum-right Standard c s =
     let e : length c - 1 ≡ suc (length c - 2) = omega (arith, s .apart) in
     rw (
@@ -238,17 +221,17 @@ named-numbers m c = refl
 
 -- ---- The fields
 
-module _ (m : Mode) (r : Rule) (l b : List ℕ) where
+module _ (m : Mode) (r : Rule) (l b : List ℕ) (drawn : T (every isDrawn (r .formats))) where
   -- reading by a rule: the conditions on stamp, width and kind
   fields-told : (k : Bool) → isStamped (r .mark) ≡ k
       → fieldsOf m r l b ≡ firstRefusal (namedFields m b (some r)) (groupOf l (stampIn k b) (dataIn k b))
-  unfolding firstRefusal need checked widthRight kindRight stampFollowed stampAs stampIn dataIn
-  fields-told false e = fields-plain m r l b e ∙ rw (e, kinds-agree-in (r .kind) b) (simp Bool·not-not)
+  unfolding firstRefusal need checked stampFollowed stampAs stampIn dataIn
+  fields-told false e = fields-plain m r l b e ∙ rw (e, width-agrees r b, kind-agrees r b drawn) (simp Bool·not-not)
   fields-told true e =
       split 14 (length b)
       (λ h. equal-or (getD b 13 0) (separator m)
       (λ q. fields-stamped m r l b e h q
-      ∙ rw (e, eq-eqb _ _ q, lt-ltb 13 (length b) h, kinds-agree-in (r .kind) (drop 14 b)) (simp Bool·not-not))
+      ∙ rw (e, eq-eqb _ _ q, lt-ltb 13 (length b) h, width-agrees r (drop 14 b), kind-agrees r (drop 14 b) drawn) (simp Bool·not-not))
       (λ n. fields-unparted m r l b e h n ∙ rw (e, ne-eqb _ _ n, lt-ltb 13 (length b) h)))
       (λ h. fields-short m r l b e h ∙ rw (e, le-ltb 13 (length b) (omega arith)))
 
@@ -259,12 +242,13 @@ module _ (m : Mode) (r : Rule) (l b : List ℕ) where
       ∙ first-number 1 (namedFields m b (some r)) (groupOf l (stampIn (isStamped (r .mark)) b) (dataIn (isStamped (r .mark)) b))
 
 -- and by the rule that the label has, if it has one
-listed-told : (m : Mode) (c : List ℕ) (o : Option Rule)
+listed-told : (m : Mode) (c : List ℕ) (o : Option Rule) → lookup (labelOf m c) (rows m) ≡ o
     → found o LabelUnknown (λ r. fieldsOf m r (labelOf m c) (bodyOf m c))
     ≡ firstRefusal (namedFields m (bodyOf m c) o) (markedFields m c o)
 unfolding found firstRefusal need
-listed-told m c none = refl
-listed-told m c (some r) = fields-told m r (labelOf m c) (bodyOf m c) (isStamped (r .mark)) refl
+listed-told m c none h = refl
+listed-told m c (some r) h =
+    fields-told m r (labelOf m c) (bodyOf m c) (listed-right m (labelOf m c) r h .all-drawn) (isStamped (r .mark)) refl
 
 -- ---- All of it
 
@@ -279,4 +263,4 @@ read-by-conditions m c =
     by-need (λ (a : Answer Refusal Group). read m c ≡ a) (not (misshapen m c)) Misshapen _
     (λ u. misshapen-read m c h (T-not-not (misshapen m c) u))
     (λ u. shaped-read m c h (shape m c u)
-    ∙ ap (need (not (checkWrong m c)) CheckWrong) (listed-told m c (lookup (labelOf m c) (rows m)))))
+    ∙ ap (need (not (checkWrong m c)) CheckWrong) (listed-told m c (lookup (labelOf m c) (rows m)) refl)))

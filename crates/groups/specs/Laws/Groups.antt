@@ -4,14 +4,15 @@ use mathlib.Core.Logic.{_↔_}
 use mathlib.Core.Bool.{Bool, true, false, _&&_}
 use mathlib.Core.Option.{Option, some}
 use mathlib.Core.List.{List, [], _∷_, _++_}
-use Prim.Native.Nat.{ℕ, _+_, _-_, _≤_}
+use Prim.Native.Nat.{ℕ, _+_, _≤_}
 use native.Mathlib.Omega.{arith}
-use lib.Dec.{T, eqb, eqb→eq, eqb-refl, le→leb}
+use lib.Dec.{T, eqb, eqb→eq, eqb-refl, le→leb, leb, leb→le}
 use lib.ListN.{length, take, drop, getD, length-append, take-append-drop}
 use lib.Seq.{take-at, drop-at}
 use mir.Facts.{and-yes}
 use Rattle.characters.specs.Answers.{given, need-yes, need-given, found-yes, found-given, pick, pick-yes, by-pick}
 use Rattle.groups.specs.Modes.{separator}
+use Rattle.groups.specs.Formats.{Rule}
 use Rattle.groups.specs.Table.{rows, lookup}
 use Rattle.groups.specs.Stamps.{isStamped, stampAs, seasonRight, dateRight}
 use Rattle.groups.specs.Fields.{widthRight, longest, checked}
@@ -23,7 +24,6 @@ use Rattle.groups.specs.Laws.Cuts.{cut-joined, cut-joins, ending-joined,
 use Rattle.groups.specs.Laws.Table.{listed-right}
 use Rattle.groups.specs.declared.Mode.{Mode}
 use Rattle.groups.specs.declared.table.Mark.{Mark}
-use Rattle.groups.specs.declared.table.Rule.{Rule}
 
 -- ---- Stamp and data of a body
 
@@ -134,7 +134,7 @@ total-end (y ∷ a) x = omega (arith, total-end a x)
 
 pub width-most : (r : Rule) (n : ℕ) → T (widthRight r n) → n ≤ longest r
 unfolding widthRight
-width-most r n t = omega (arith, eqb→eq n (r .width) t)
+width-most r n t = leb→le n (r .largest) (and-yes (leb (r .smallest) n) (leb n (r .largest)) t .1)
 
 pub body-length : (m : Mode) (b : Bool) (k : Mark) (s d : List ℕ) → T (stampAs b k s)
     → length (body m b s d) ≡ stampRoom b + length d

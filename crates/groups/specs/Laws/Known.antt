@@ -14,7 +14,7 @@ use Rattle.groups.specs.Groups.{read}
 use Rattle.groups.specs.Judging.{judging}
 use Rattle.groups.specs.Conditions.{conditions}
 use Rattle.groups.specs.declared.Mode.{Mode}
-use Rattle.groups.specs.declared.Mode.the-variants.{Historic, Standard}
+use Rattle.groups.specs.declared.Mode.the-variants.{Historic, Standard, Business}
 use Rattle.groups.specs.declared.Refusal.the-variants.{TooLong, ModeUnknown}
 
 -- each mode has a number
@@ -22,6 +22,7 @@ pub mode-number : (m : Mode) → (number : ℕ) × (modeOf number ≡ some m)
 unfolding modeOf pick
 mode-number Historic = (0, refl)
 mode-number Standard = (1, refl)
+mode-number Business = (2, refl)
 
 -- a content over 128 is too long to the reader
 pub judged-long : (number : ℕ) (m : Mode) → modeOf number ≡ some m → (c : List ℕ) → 128 < length c

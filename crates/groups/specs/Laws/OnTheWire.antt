@@ -1,27 +1,29 @@
 -- A content that is written is HT and characters of 0x20 to 0x7E, and it comes off the wire as it went on.
-use mathlib.Core.Path.{_≡_, refl, subst}
+use mathlib.Core.Path.{_≡_, refl, sym, subst}
 use mathlib.Core.Logic.{⊎-elim}
 use mathlib.Core.Bool.{Bool, true, false, _&&_, _||_}
 use mathlib.Core.List.{List, [], _∷_, _++_, map}
-use Prim.Native.Nat.{ℕ, suc, _+_, _-_, _≤_, _<_}
+use Prim.Native.Nat.{ℕ, zero, suc, _+_, _-_, _≤_, _<_}
 use native.Mathlib.Omega.{arith}
 use lib.Dec.{T, leb, ltb, eqb, leb→le, le→leb, ltb→lt, lt→ltb, eqb→eq}
 use lib.ListN.{length, drop, length-append, length-map}
 use lib.Seq.{take-at}
 use mir.Facts.{and-yes, yes-and, or-yes}
-use Rattle.characters.specs.Answers.{given, every, every-weaker, every-joined, from-true}
+use Rattle.characters.specs.Answers.{given, every, every-weaker, every-joined, from-true, by-pick}
 use Rattle.characters.specs.Wire.{wireByteOf, characterOf, isSound, HT, LF, CR, SP}
 use Rattle.characters.specs.WireLaws.{wire-sound, wire-character, control-wires}
 use Rattle.groups.specs.Modes.{separator}
 use Rattle.groups.specs.Kinds.{within, ofKind}
+use Rattle.groups.specs.Forms.{Form, takes, lastOf, matches, hasLength, fits, someFits}
+use Rattle.groups.specs.Formats.{forms}
 use Rattle.groups.specs.Stamps.{isStamped, stampAs, seasonRight, dateRight}
 use Rattle.groups.specs.Fields.{kindRight}
 use Rattle.groups.specs.Groups.{Group, check, content, body, compose}
 use Rattle.groups.specs.Writing.{onTheWire, offTheWire}
-use Rattle.groups.specs.Laws.Table.{listed-right}
+use Rattle.groups.specs.Laws.Table.{plainForm, listed-right}
 use Rattle.groups.specs.Laws.Groups.{compose-given}
 use Rattle.groups.specs.declared.Mode.{Mode}
-use Rattle.groups.specs.declared.Mode.the-variants.{Historic, Standard}
+use Rattle.groups.specs.declared.Mode.the-variants.{Historic, Standard, Business}
 use Rattle.groups.specs.declared.table.Kind.{Kind}
 use Rattle.groups.specs.declared.table.Kind.the-variants.{Digits, Hex, Text}
 use Rattle.groups.specs.declared.table.Mark.{Mark}
@@ -57,6 +59,45 @@ of-kind-plain Hex x t =
     (or-yes (within 0x30 0x39 x) (within 0x41 0x46 x) t)
 of-kind-plain Text x t = within-plain 0x20 0x7E x (omega arith) (omega arith) t
 
+-- so is what a picture takes that has none but them
+abbrev Plain : ℕ → Bool → Type 0
+Plain x b = T b → T (isPlain x)
+
+takes-plain : (p x : ℕ) → T (within 0x20 0x7E p) → T (takes p x) → T (isPlain x)
+unfolding takes
+takes-plain p x w t =
+    by-pick (Plain x) (eqb p 0x39) _ _ (λ u. of-kind-plain Digits x)
+    (λ u. by-pick (Plain x) (eqb p 0x30) _ _ (λ u. of-kind-plain Hex x)
+    (λ u. by-pick (Plain x) (eqb p 0x2A) _ _ (λ u. of-kind-plain Text x)
+    (λ u. by-pick (Plain x) (eqb p 0x2C) (eqb x 0x2C || eqb x 0x2E) (eqb x p)
+    (λ u t. ⊎-elim (λ v. rw (eqb→eq x 0x2C v) tt) (λ v. rw (eqb→eq x 0x2E v) tt) (or-yes (eqb x 0x2C) (eqb x 0x2E) t))
+    (λ u t. subst (λ (z : ℕ). T (isPlain z)) (sym (eqb→eq x p t)) (within-plain 0x20 0x7E p (omega arith) (omega arith) w))))) t
+
+match-plain : (p d : List ℕ) → T (every (within 0x20 0x7E) p) → T (matches p d) → T (arePlain d)
+unfolding matches
+match-plain [] [] w t = tt
+match-plain [] (x ∷ d) w t = absurd t
+match-plain (q ∷ p) [] w t = tt
+match-plain (q ∷ p) (x ∷ d) w t =
+    let v = and-yes (within 0x20 0x7E q) (every (within 0x20 0x7E) p) w in
+    let u = and-yes (takes q x) (matches p d) t in
+    yes-and (isPlain x) (arePlain d) (takes-plain q x (v .0) (u .0)) (match-plain p d (v .1) (u .1))
+
+every-drop : (f : ℕ → Bool) (n : ℕ) (xs : List ℕ) → T (every f xs) → T (every f (drop n xs))
+every-drop f zero xs t = t
+every-drop f (suc n) [] t = tt
+every-drop f (suc n) (x ∷ xs) t = every-drop f n xs (and-yes (f x) (every f xs) t .1)
+
+some-plain : (fs : List Form) (d : List ℕ) → T (every plainForm fs) → T (someFits fs d) → T (arePlain d)
+unfolding someFits fits
+some-plain [] d w t = absurd t
+some-plain (f ∷ fs) d w t =
+    let v = and-yes (plainForm f) (every plainForm fs) w in
+    let end = lastOf (length d) (f .picture) in
+    ⊎-elim (λ u. match-plain end d (every-drop (within 0x20 0x7E) (length (f .picture) - length d) (f .picture) (v .0))
+    (and-yes (hasLength f (length d)) (matches end d) u .1))
+    (λ u. some-plain fs d (v .1) u) (or-yes (fits f d) (someFits fs d) t)
+
 -- one that passes a test, or is this one of them
 or-plain : (test : Bool) (x y : ℕ) → T (isPlain y) → (T test → T (isPlain x)) → T (test || eqb x y) → T (isPlain x)
 or-plain test x y p f t = ⊎-elim f (λ u. rw (eqb→eq x y u) p) (or-yes test (eqb x y) t)
@@ -74,6 +115,7 @@ season-plain Space x t = rw (eqb→eq x SP t) tt
 separator-plain : (m : Mode) → T (isPlain (separator m))
 separator-plain Historic = tt
 separator-plain Standard = tt
+separator-plain Business = tt
 
 -- and a check character is one of them
 check-plain : (m : Mode) (l b : List ℕ) → T (isPlain (check m l b))
@@ -132,7 +174,7 @@ written-plain m g c e =
     (content-plain m (g .label) _
     (every-weaker _ isPlain (λ x t. within-plain 0x21 0x7E x (omega arith) (omega arith) t) (g .label) (row .plain-label))
     (body-plain m (isStamped k) k (g .stamp) (g .«data») (i .fields .stamp-right)
-    (every-weaker _ isPlain (of-kind-plain (i .rule .kind)) (g .«data») (i .fields .kind-right))))
+    (some-plain (forms (i .rule .formats)) (g .«data») (row .plain-forms) (i .fields .kind-right))))
 
 -- ---- And so below 128
 

@@ -12,6 +12,7 @@ use lib.Seq.{drop-cons, length-take-le}
 use borrow.Author.Tests.{eq-eqb, ne-eqb, le-leb, lt-leb}
 use Rattle.characters.specs.Answers.{refused, need, found, pick}
 use Rattle.groups.specs.Modes.{separator}
+use Rattle.groups.specs.Formats.{Rule}
 use Rattle.groups.specs.Table.{rows, lookup}
 use Rattle.groups.specs.Stamps.{isStamped}
 use Rattle.groups.specs.Fields.{checked}
@@ -20,7 +21,6 @@ use Rattle.groups.specs.Groups.{groupOf, check, parts, fieldsOf, behindL
 use Rattle.groups.specs.Conditions.{firstAt}
 use Rattle.groups.specs.declared.Mode.{Mode}
 use Rattle.groups.specs.declared.Refusal.the-variants.{TooLong, Misshapen, CheckWrong, LabelUnknown, StampWrong}
-use Rattle.groups.specs.declared.table.Rule.{Rule}
 
 -- ---- The first separator
 

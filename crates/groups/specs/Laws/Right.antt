@@ -7,26 +7,29 @@ use mathlib.Core.List.{List, [], _∷_, _++_, append-assoc}
 use mathlib.Core.List.{List·Memᴰ, List·Memᴰ·head, List·Memᴰ·tail, List·Memᴰ·not-nil, List·Memᴰ·cases-cons}
 use Prim.Native.Nat.{ℕ, _+_, _%_}
 use native.Mathlib.Omega.{arith}
-use lib.Dec.{T, eqb→eq, T-not, not-T}
-use mir.Facts.{and-yes, yes-eqb}
-use Rattle.characters.specs.Answers.{given, every, every-at, at-every, pick, pick-yes, pick-no, by-pick}
+use lib.Dec.{T, leb, leb→le, le→leb, T-not, not-T}
+use lib.ListN.{length}
+use mir.Facts.{and-yes, yes-and, or-yes}
+use Rattle.characters.specs.Answers.{given, every, pick, pick-yes, pick-no, by-pick}
 use Rattle.characters.specs.Wire.{HT}
 use Rattle.groups.specs.Modes.{separator, countedAtEnd}
-use Rattle.groups.specs.Kinds.{ofKind}
+use Rattle.groups.specs.Formats.{Field, Rule}
 use Rattle.groups.specs.Table.{Entry, rows, same, lookup}
 use Rattle.groups.specs.Stamps.{isStamped}
-use Rattle.groups.specs.Fields.{widthRight, kindRight}
+use Rattle.groups.specs.Fields.{widthRight}
 use Rattle.groups.specs.Groups.{Group, total, check, content, body, read}
+use Rattle.groups.specs.Made.{madeOf, someMade}
 use Rattle.groups.specs.Right.{parted, counted, RightGroup}
 use Rattle.groups.specs.Laws.Tests.{not-some, same→eq, same-refl}
-use Rattle.groups.specs.Laws.Table.{distinct, labels-distinct}
+use Rattle.groups.specs.Laws.Forms.{or-left, or-right}
+use Rattle.groups.specs.Laws.Table.{distinct, labels-distinct, listed-right}
 use Rattle.groups.specs.Laws.Groups.{total-end, IsGroup, read-given, read-right}
-use Rattle.groups.specs.Laws.Stamps.{kinds-agree, stamps-agree}
+use Rattle.groups.specs.Laws.Stamps.{stamps-agree}
+use Rattle.groups.specs.Laws.Made.{kind-agrees}
 use Rattle.groups.specs.declared.Mode.{Mode}
-use Rattle.groups.specs.declared.Mode.the-variants.{Historic, Standard}
+use Rattle.groups.specs.declared.Mode.the-variants.{Historic, Standard, Business}
 use Rattle.groups.specs.declared.table.Mark.{Mark}
 use Rattle.groups.specs.declared.table.Mark.the-variants.{Unstamped, Letter, Space}
-use Rattle.groups.specs.declared.table.Rule.{Rule}
 
 -- ---- A label that is looked up stands in the list
 
@@ -95,6 +98,7 @@ parted-is m Space g = refl
 counted-is : (m : Mode) (front : List ℕ) → total (counted m front) ≡ total front + countedAtEnd m
 counted-is Historic front = omega arith
 counted-is Standard front = total-end front HT
+counted-is Business front = omega arith
 
 -- a content is the fields with their separators, the final separator and the check character
 whole : (m : Mode) (mark : Mark) (g : Group) (k : ℕ) → k ≡ total (counted m (parted m mark g)) % 64 + 32
@@ -102,12 +106,32 @@ whole : (m : Mode) (mark : Mark) (g : Group) (k : ℕ) → k ≡ total (counted 
 unfolding content check
 whole m mark g k e = rw (e, counted-is m (parted m mark g), parted-is m mark g) (simp append-assoc)
 
+-- data that are made of one of some formats are made of one that stands among them
+some-made : (formats : List (List Field)) (d : List ℕ) → T (someMade formats d)
+    → (format : List Field) × List·Memᴰ format formats × T (madeOf format d)
+unfolding someMade
+some-made [] d t = absurd t
+some-made (f ∷ more) d t =
+    ⊎-elim (λ t. (f, List·Memᴰ·head refl, t))
+    (λ t. let (g, m, u) = some-made more d t in (g, List·Memᴰ·tail m, u)) (or-yes (madeOf f d) (someMade more d) t)
+
+made-some : (formats : List (List Field)) (d : List ℕ) (format : List Field) → List·Memᴰ format formats
+    → T (madeOf format d) → T (someMade formats d)
+unfolding someMade
+made-some [] d f m t = absurd (List·Memᴰ·not-nil m)
+made-some (g ∷ more) d f m t =
+    ⊎-elim (λ e. or-left (madeOf g d) (someMade more d) (subst (λ (x : List Field). T (madeOf x d)) e t))
+    (λ k. or-right (madeOf g d) (someMade more d) (made-some more d f k t)) (List·Memᴰ·cases-cons m)
+
 -- a content of right fields is that of a right group
 group-right : (m : Mode) (c : List ℕ) (g : Group) → IsGroup m c g → RightGroup m c g
-unfolding widthRight kindRight
+unfolding widthRight
 group-right m c g i =
     let mark = i .rule .mark in
-    let kind = i .rule .kind in
+    let n = length (g .«data») in
+    let wide = and-yes (leb (i .rule .smallest) n) (leb n (i .rule .largest)) (i .fields .width-right) in
+    let drawn = listed-right m (g .label) (i .rule) (i .listed) .all-drawn in
+    let made = some-made (i .rule .formats) (g .«data») (subst T (kind-agrees (i .rule) (g .«data») drawn) (i .fields .kind-right)) in
     record {
       rule = i .rule;
       checkCharacter = total (counted m (parted m mark g)) % 64 + 32;
@@ -115,23 +139,29 @@ group-right m c g i =
       separated = sym (i .whole) ∙ whole m mark g _ refl;
       check-right = refl;
       stamp-right = stamps-agree mark (g .stamp) .0 (i .fields .stamp-right);
-      width-right = eqb→eq _ _ (i .fields .width-right);
-      kind-right = λ j h. kinds-agree kind _ .0 (every-at (ofKind kind) (g .«data») 0 (i .fields .kind-right) j h);
+      long-enough = leb→le _ _ (wide .0);
+      short-enough = leb→le _ _ (wide .1);
+      format = made .0;
+      format-listed = made .1;
+      data-made = made .2;
     }
 
 -- and back
 right-group : (m : Mode) (c : List ℕ) (g : Group) → RightGroup m c g → IsGroup m c g
-unfolding widthRight kindRight
+unfolding widthRight
 right-group m c g r =
     let mark = r .rule .mark in
-    let kind = r .rule .kind in
+    let n = length (g .«data») in
+    let found = found-listed m (g .label) (r .rule) (r .listed) in
+    let drawn = listed-right m (g .label) (r .rule) found .all-drawn in
+    let made = made-some (r .rule .formats) (g .«data») (r .format) (r .format-listed) (r .data-made) in
     record {
       rule = r .rule;
-      listed = found-listed m (g .label) (r .rule) (r .listed);
+      listed = found;
       fields = record {
         stamp-right = stamps-agree mark (g .stamp) .1 (r .stamp-right);
-        width-right = yes-eqb (r .width-right);
-        kind-right = at-every (ofKind kind) (g .«data») 0 (λ j h. kinds-agree kind _ .1 (r .kind-right j h));
+        width-right = yes-and (leb (r .rule .smallest) n) (leb n (r .rule .largest)) (le→leb _ _ (r .long-enough)) (le→leb _ _ (r .short-enough));
+        kind-right = subst T (sym (kind-agrees (r .rule) (g .«data») drawn)) made;
       };
       whole = whole m mark g (r .checkCharacter) (r .check-right) ∙ sym (r .separated);
     }

@@ -13,6 +13,7 @@ use mir.Facts.{and-yes, or-yes}
 use borrow.Author.Tests.{ne-eqb}
 use Rattle.characters.specs.Answers.{every, is-true, is-false, pick, firstOf}
 use Rattle.characters.specs.Wire.{HT, SP}
+use Rattle.groups.specs.Formats.{Rule}
 use Rattle.groups.specs.Table.{standardRows, rows, same, lookup}
 use Rattle.groups.specs.Stamps.{dateRight, isStamped, stampAs, stampRight}
 use Rattle.groups.specs.Groups.{groupOf, check, content, read}
@@ -24,16 +25,16 @@ use Rattle.groups.specs.WriterConditions.{stampUnfit, roomFor, fieldsUnf
 use Rattle.groups.specs.Listed.{isAmong}
 use Rattle.groups.specs.Seasons.{Season, winter, summer, letterOf, degraded, peaks, isPeak, closed}
 use Rattle.groups.specs.Laws.Tests.{split, same→eq}
+use Rattle.groups.specs.Laws.Table.{listed-right}
 use Rattle.groups.specs.Laws.Groups.{total-end, content-length, read-listed}
 use Rattle.groups.specs.Laws.Named.{numberAs}
 use Rattle.groups.specs.Laws.Conditions.{fields-number}
 use Rattle.groups.specs.Laws.Known.{eight-long}
 use Rattle.groups.specs.Laws.ByNumber.{read-number, judged-first}
 use Rattle.groups.specs.Laws.Writer.{written-first}
-use Rattle.groups.specs.declared.Mode.the-variants.{Historic, Standard}
+use Rattle.groups.specs.declared.Mode.the-variants.{Historic, Standard, Business}
 use Rattle.groups.specs.declared.table.Mark.{Mark}
 use Rattle.groups.specs.declared.table.Mark.the-variants.{Unstamped, Letter, Space}
-use Rattle.groups.specs.declared.table.Rule.{Rule}
 
 -- ---- Stamps
 
@@ -119,7 +120,8 @@ module _ (season : Season) (label rest d : List ℕ) (room : ℕ) where
   unfolding writtenWhen firstOf pick
   degraded-when zero = degraded-unfit (lookup label (rows Historic))
   degraded-when (suc zero) = degraded-unfit (lookup label (rows Standard))
-  degraded-when (suc (suc number)) = refl
+  degraded-when (suc (suc zero)) = degraded-unfit (lookup label (rows Business))
+  degraded-when (suc (suc (suc number))) = refl
 
   -- writing tells of the small letter what it tells of the capital
   pub degraded-told : (number : ℕ)
@@ -178,7 +180,7 @@ module _ (label : List ℕ) (rule : Rule) (listed : lookup label (rows Standard)
   judged-fields body h =
       told-as-read (content Standard label body)
       ∙ ap (numberAs 1) (read-listed Standard label body rule listed h)
-      ∙ fields-number Standard rule label body
+      ∙ fields-number Standard rule label body (listed-right Standard label rule listed .all-drawn)
 
   -- of a stamped label, it tells of the small letter what it tells of the capital
   pub degraded-judged : (season : Season) (rest : List ℕ) → T (isStamped (rule .mark))

@@ -10,6 +10,7 @@ use lib.Seq.{take-at, drop-at, take-take, length-take-le, getD-take, getD-drop}
 use borrow.Author.Tests.{lt-leb}
 use Rattle.characters.specs.Answers.{Answer, refused, given, found-given, pick, pick-yes}
 use Rattle.groups.specs.Modes.{separator}
+use Rattle.groups.specs.Formats.{Rule}
 use Rattle.groups.specs.Stamps.{isStamped, stampAs}
 use Rattle.groups.specs.Groups.{Group, content, body}
 use Rattle.groups.specs.Judging.{judging, stampSpan, stampStretch, shown, partOf, partStart, Shows, Inside}
@@ -19,7 +20,6 @@ use Rattle.groups.specs.declared.Mode.{Mode}
 use Rattle.groups.specs.declared.Refusal.{Refusal}
 use Rattle.groups.specs.declared.Stretch.{Stretch}
 use Rattle.groups.specs.declared.table.Mark.{Mark}
-use Rattle.groups.specs.declared.table.Rule.{Rule}
 
 -- the stretch behind a, as long as p, of a text that is a, then p, then b
 part-is : (c a p b : List ℕ) (start n : ℕ) → c ≡ a ++ (p ++ b) → length a ≡ start → length p ≡ n

@@ -11,6 +11,7 @@ use mir.Facts.{and-yes}
 use borrow.Author.Tests.{ne-eqb}
 use Rattle.characters.specs.Answers.{Answer, refused, given, pick, pick-yes, pick-no, firstOf, found}
 use Rattle.groups.specs.Modes.{modeOf, separator}
+use Rattle.groups.specs.Formats.{Rule}
 use Rattle.groups.specs.Table.{rows, lookup}
 use Rattle.groups.specs.Stamps.{isStamped, stampRight}
 use Rattle.groups.specs.Groups.{Group, content, body, read}
@@ -34,11 +35,10 @@ use Rattle.groups.specs.Laws.Conditions.{named, read-by-conditions}
 use Rattle.groups.specs.Laws.Unknown.{judging-no-mode}
 use Rattle.groups.specs.Laws.ByNumber.{read-number}
 use Rattle.groups.specs.declared.Mode.{Mode}
-use Rattle.groups.specs.declared.Mode.the-variants.{Historic, Standard}
+use Rattle.groups.specs.declared.Mode.the-variants.{Historic, Standard, Business}
 use Rattle.groups.specs.declared.Refusal.{Refusal}
 use Rattle.groups.specs.declared.table.Mark.{Mark}
 use Rattle.groups.specs.declared.table.Mark.the-variants.{Unstamped, Letter, Space}
-use Rattle.groups.specs.declared.table.Rule.{Rule}
 
 -- the first separator stands behind a text without one
 first-behind : (s : ℕ) (l a : List ℕ) → T (free s l) → firstAt s (l ++ s ∷ a) ≡ length l
@@ -122,4 +122,5 @@ pub judged-stretches : (number : ℕ) (c : List ℕ) → sixNumbers (shown (judg
 unfolding judging modeOf found pick stretchesDue
 judged-stretches zero c = read-numbers Historic c
 judged-stretches (suc zero) c = read-numbers Standard c
-judged-stretches (suc (suc number)) c = rw (judging-no-mode (suc (suc number)) (omega arith) c)
+judged-stretches (suc (suc zero)) c = read-numbers Business c
+judged-stretches (suc (suc (suc number))) c = rw (judging-no-mode (suc (suc (suc number))) (omega arith) c)

@@ -5,12 +5,12 @@ use mathlib.Core.Option.{Option, none, some}
 use mathlib.Core.List.{List, [], _∷_}
 use Prim.Native.Nat.{ℕ, zero, suc}
 use native.Mathlib.Omega.{arith}
-use lib.Dec.{T, leb, ltb, eqb}
+use lib.Dec.{T, leb, ltb}
 use lib.ListN.{length}
-use borrow.Author.Tests.{ne-eqb, lt-ltb, le-ltb, le-leb, lt-leb}
+use borrow.Author.Tests.{ne-eqb, lt-ltb}
 use Rattle.characters.specs.Answers.{Answer, refused, given, need, found, every, pick, firstOf, from-true}
 use Rattle.groups.specs.Modes.{modeOf}
-use Rattle.groups.specs.Kinds.{ofKind}
+use Rattle.groups.specs.Formats.{Rule, isDrawn}
 use Rattle.groups.specs.Table.{rows, lookup}
 use Rattle.groups.specs.Stamps.{isStamped, stampAs, stampRight}
 use Rattle.groups.specs.Fields.{widthRight, kindRight, checked}
@@ -18,21 +18,21 @@ use Rattle.groups.specs.Groups.{Group, content, body, compose}
 use Rattle.groups.specs.Numbers.{numberOfWriting}
 use Rattle.groups.specs.Writing.{onTheWire, into, writing, told}
 use Rattle.groups.specs.WriterConditions.{stampUnfit, roomForStamp, roomFor, fieldsUnfit, writtenWhen}
-use Rattle.groups.specs.Spelled.{among, spelled}
+use Rattle.groups.specs.Made.{someMade}
+use Rattle.groups.specs.Conditions.{outside}
 use Rattle.groups.specs.Inside.{stampRoom}
-use Rattle.groups.specs.Laws.Tests.{split}
+use Rattle.groups.specs.Laws.Table.{listed-right}
 use Rattle.groups.specs.Laws.Groups.{body-length, content-length}
 use Rattle.groups.specs.Laws.OnTheWire.{on-length}
-use Rattle.groups.specs.Laws.Stamps.{kinds-agree-in}
+use Rattle.groups.specs.Laws.Made.{kind-agrees, width-agrees, le-or}
 use Rattle.groups.specs.Laws.Named.{firstRefusal, numberAs, first-number}
 use Rattle.groups.specs.Laws.Unknown.{writing-no-mode}
 use Rattle.groups.specs.declared.Mode.{Mode}
-use Rattle.groups.specs.declared.Mode.the-variants.{Historic, Standard}
+use Rattle.groups.specs.declared.Mode.the-variants.{Historic, Standard, Business}
 use Rattle.groups.specs.declared.Refusal.{Refusal}
 use Rattle.groups.specs.declared.Refusal.the-variants.{LabelUnknown, StampWrong, WidthWrong, KindWrong, NoRoom}
 use Rattle.groups.specs.declared.table.Mark.{Mark}
 use Rattle.groups.specs.declared.table.Mark.the-variants.{Unstamped, Letter, Space}
-use Rattle.groups.specs.declared.table.Rule.{Rule}
 
 -- ---- The stamp
 
@@ -53,10 +53,6 @@ unfolding pick
 stamp-room Unstamped = refl
 stamp-room Letter = refl
 stamp-room Space = refl
-
--- one order or the other, as tests
-le-or : (a b : ℕ) → leb a b ≡ not (ltb b a)
-le-or a b = split a b (λ h. rw (le-leb a b h, le-ltb b a h)) (λ h. rw (lt-leb a b h, lt-ltb b a h))
 
 module _ (m : Mode) (rule : Rule) (g : Group) (room : ℕ) where
   abbrev whole : List ℕ
@@ -84,8 +80,8 @@ module _ (m : Mode) (rule : Rule) (g : Group) (room : ℕ) where
   named =
       (LabelUnknown, false)
       ∷ (StampWrong, stampUnfit (rule .mark) (g .stamp))
-      ∷ (WidthWrong, not (eqb (length (g .«data»)) (rule .width)))
-      ∷ (KindWrong, not (every (among (spelled (rule .kind))) (g .«data»)))
+      ∷ (WidthWrong, outside rule (g .«data»))
+      ∷ (KindWrong, not (someMade (rule .formats) (g .«data»)))
       ∷ (NoRoom, ltb room (roomFor (rule .mark) g))
       ∷ []
 
@@ -99,20 +95,20 @@ module _ (m : Mode) (rule : Rule) (g : Group) (room : ℕ) where
   asked-last true true c = refl
 
   -- and with the test of the stamp before them
-  asked : (b : Bool) → stampRight (rule .mark) (g .stamp) ≡ b
+  asked : T (every isDrawn (rule .formats)) → (b : Bool) → stampRight (rule .mark) (g .stamp) ≡ b
       → into room (checked rule (g .stamp) (g .«data») whole) ≡ firstRefusal named (onTheWire whole)
-  unfolding checked need into firstRefusal widthRight kindRight
-  asked false e = rw (← (stamp-fit (rule .mark) (g .stamp)), e)
-  asked true e =
+  unfolding checked need into firstRefusal
+  asked drawn false e = rw (← (stamp-fit (rule .mark) (g .stamp)), e)
+  asked drawn true e =
       rw (
         ← (stamp-fit (rule .mark) (g .stamp)),
         e,
-        Bool·not-not (eqb (length (g .«data»)) (rule .width)),
-        Bool·not-not (every (among (spelled (rule .kind))) (g .«data»)),
-        ← (kinds-agree-in (rule .kind) (g .«data»)),
+        Bool·not-not (someMade (rule .formats) (g .«data»)),
+        ← (width-agrees rule (g .«data»)),
+        ← (kind-agrees rule (g .«data») drawn),
         ← (room-asked (from-true e)),
       )
-      (asked-last (eqb (length (g .«data»)) (rule .width)) (every (ofKind (rule .kind)) (g .«data»)) whole)
+      (asked-last (widthRight rule (length (g .«data»))) (kindRight rule (g .«data»)) whole)
 
 -- ---- All of it
 
@@ -122,20 +118,21 @@ told-as (refused refusal) = refl
 told-as (given w) = refl
 
 -- writing by the rule that the label has, if it has one
-listed-told : (m : Mode) (g : Group) (room : ℕ) (o : Option Rule)
+listed-told : (m : Mode) (g : Group) (room : ℕ) (o : Option Rule) → lookup (g .label) (rows m) ≡ o
     → numberAs 0 (into room (found o LabelUnknown λ rule.
     checked rule (g .stamp) (g .«data») (content m (g .label) (body m (isStamped (rule .mark)) (g .stamp) (g .«data»)))))
     ≡ firstOf 0 (fieldsUnfit g room o)
 unfolding found into firstOf pick
-listed-told m g room none = refl
-listed-told m g room (some rule) =
-    ap (numberAs 0) (asked m rule g room (stampRight (rule .mark) (g .stamp)) refl)
+listed-told m g room none h = refl
+listed-told m g room (some rule) h =
+    ap (numberAs 0) (asked m rule g room (listed-right m (g .label) rule h .all-drawn) (stampRight (rule .mark) (g .stamp)) refl)
     ∙ first-number 0 (named m rule g room) _
 
 -- writing tells the number of the first condition that holds, and 0 where none does
 pub written-first : (number : ℕ) (g : Group) (room : ℕ)
     → numberOfWriting (told (writing number g room) .outcome) ≡ firstOf 0 (writtenWhen number g room)
 unfolding writing compose found writtenWhen firstOf modeOf pick
-written-first zero g room = told-as (writing 0 g room) ∙ listed-told Historic g room (lookup (g .label) (rows Historic))
-written-first (suc zero) g room = told-as (writing 1 g room) ∙ listed-told Standard g room (lookup (g .label) (rows Standard))
-written-first (suc (suc number)) g room = rw (writing-no-mode (suc (suc number)) (omega arith) g room)
+written-first zero g room = told-as (writing 0 g room) ∙ listed-told Historic g room (lookup (g .label) (rows Historic)) refl
+written-first (suc zero) g room = told-as (writing 1 g room) ∙ listed-told Standard g room (lookup (g .label) (rows Standard)) refl
+written-first (suc (suc zero)) g room = told-as (writing 2 g room) ∙ listed-told Business g room (lookup (g .label) (rows Business)) refl
+written-first (suc (suc (suc number))) g room = rw (writing-no-mode (suc (suc (suc number))) (omega arith) g room)

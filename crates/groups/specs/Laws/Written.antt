@@ -20,7 +20,7 @@ use Rattle.groups.specs.Laws.Unknown.{writing-no-mode}
 use Rattle.groups.specs.Laws.ByNumber.{into-given}
 use Rattle.groups.specs.Laws.Writer.{room-due, told-as, written-first}
 use Rattle.groups.specs.declared.Mode.{Mode}
-use Rattle.groups.specs.declared.Mode.the-variants.{Historic, Standard}
+use Rattle.groups.specs.declared.Mode.the-variants.{Historic, Standard, Business}
 use Rattle.groups.specs.declared.Refusal.{Refusal}
 
 -- bytes that are given fit
@@ -58,7 +58,10 @@ written-counted zero g room =
 written-counted (suc zero) g room =
     in-mode-count Standard g room
     ∙ rw (← (told-as (writing 1 g room)), written-first 1 g room)
-written-counted (suc (suc number)) g room = rw (writing-no-mode (suc (suc number)) (omega arith) g room)
+written-counted (suc (suc zero)) g room =
+    in-mode-count Business g room
+    ∙ rw (← (told-as (writing 2 g room)), written-first 2 g room)
+written-counted (suc (suc (suc number))) g room = rw (writing-no-mode (suc (suc (suc number))) (omega arith) g room)
 
 -- a buffer with room for the bytes
 left-over : (a : Answer Refusal (List ℕ)) (buffer : List ℕ) → length (bytesOf a) ≤ length buffer

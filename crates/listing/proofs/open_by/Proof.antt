@@ -15,6 +15,9 @@ open-requires c κs = search needs
 open-requires-2 : tie.Need-open-requires-2
 open-requires-2 c κs = search needs
 
+open-requires-3 : tie.Need-open-requires-3
+open-requires-3 c κs = search needs
+
 returns : tie.Need-returns
 unfolding modeBy pick
 returns c =
@@ -32,8 +35,21 @@ returns-2 c =
 returns-3 : tie.Need-returns-3
 unfolding modeBy pick
 returns-3 c =
+    let start = c .before .before in
+    let e = c .before .match .keys3 in
+    let first : eqb (start .args .letter) 0x48 ≡ false = rw e in
+    let other : eqb (start .args .letter) 0x53 ≡ false = rw e in
+    rw (first, other, eq-eqb (start .args .letter) 0x50 e) (c .open3 .ensures)
+
+returns-4 : tie.Need-returns-4
+unfolding modeBy pick
+returns-4 c =
     let start = c .before in
-    rw (ne-eqb (start .args .letter) 0x48 (c .match .rest .0 .1), ne-eqb (start .args .letter) 0x53 (c .match .rest .1))
+    rw (
+      ne-eqb (start .args .letter) 0x48 (c .match .rest .0 .0 .1),
+      ne-eqb (start .args .letter) 0x53 (c .match .rest .0 .1),
+      ne-eqb (start .args .letter) 0x50 (c .match .rest .1),
+    )
 
 pub open-by-spec : {M : Type 1} → statement M
-open-by-spec = tie.close (tie.spec open-requires open-requires-2 returns returns-2 returns-3)
+open-by-spec = tie.close (tie.spec open-requires open-requires-2 open-requires-3 returns returns-2 returns-3 returns-4)

@@ -24,8 +24,8 @@ module _ (s : Station) (line mode : ℕ) where
   unfolding opening need
   opening-no-line h = rw (le-ltb line 8 h)
 
-  -- "19: mode not 0 or 1"
-  pub opening-no-mode : line < 8 → 2 ≤ mode → opening s line mode ≡ refused ModeUnknown
+  -- "19: a mode not 0 to 2"
+  pub opening-no-mode : line < 8 → 3 ≤ mode → opening s line mode ≡ refused ModeUnknown
   unfolding opening need
   opening-no-mode h k = rw (lt-ltb line 8 h, opening-unknown mode (not-mode mode k))
 

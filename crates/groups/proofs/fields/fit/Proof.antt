@@ -1,53 +1,28 @@
--- Each answer by the tests that led to it.
-use Rattle.characters.specs.Answers.{need}
-use Rattle.groups.proofs.Walks.{all-right, some-wrong}
-use Rattle.groups.specs.Fields.{checked, kindRight, widthRight}
-use Rattle.groups.specs.Kinds.{ofKind}
+-- The rule is one or the other.
 use borrow.Author.Needs.{needs}
-use borrow.Author.Tests.{eq-eqb, ne-eqb}
-use mathlib.Core.Path.{_∙_, sym}
+use mathlib.Core.Path.{_∙_}
 use Rattle.groups.proofs.fields.fit.Statement.{statement}
 use Rattle.groups.proofs.fields.fit.Tie as tie
 
-stamp-right-requires : tie.Need-stamp-right-requires
-stamp-right-requires c κs = search needs
+enum-known-rule : tie.Need-enum-known-rule
+enum-known-rule c = search needs
 
-wrong-at-requires : tie.Need-wrong-at-requires
-wrong-at-requires c κs = search needs
+fit-plain-requires : tie.Need-fit-plain-requires
+fit-plain-requires c κs = search needs
+
+enum-known-rule-2 : tie.Need-enum-known-rule-2
+enum-known-rule-2 c = search needs
+
+fit-forms-requires : tie.Need-fit-forms-requires
+fit-forms-requires c κs = search needs
 
 returns : tie.Need-returns
-unfolding checked need widthRight kindRight
-returns c =
-    let at-if1 = c .before .before .before in
-    let at-stamp-right = at-if1 .before in
-    let start = at-stamp-right .before .before .before in
-    rw (
-      sym (at-stamp-right .stamp-right .ensures) ∙ at-if1 .if1 .taken,
-      eq-eqb _ _ (c .before .before .if2 .taken),
-      all-right (ofKind (start .args .rule .kind)) (start .args .«data» .now) (sym (c .before .wrong-at .ensures) ∙ c .if3 .taken),
-    )
+returns c = c .fit-plain .ensures ∙ rw (c .before .before .rule .given .1)
 
 returns-2 : tie.Need-returns-2
-unfolding checked need widthRight kindRight
-returns-2 c =
-    let at-if1 = c .before .before .before in
-    let at-stamp-right = at-if1 .before in
-    let start = at-stamp-right .before .before .before in
-    rw (
-      sym (at-stamp-right .stamp-right .ensures) ∙ at-if1 .if1 .taken,
-      eq-eqb _ _ (c .before .before .if2 .taken),
-      some-wrong (ofKind (start .args .rule .kind)) (start .args .«data» .now) (λ z. c .if3 .left (c .before .wrong-at .ensures ∙ z)),
-    )
-
-returns-3 : tie.Need-returns-3
-unfolding checked need widthRight kindRight
-returns-3 c = rw (sym (c .before .before .stamp-right .ensures) ∙ c .before .if1 .taken, ne-eqb _ _ (c .if2 .left))
-
-returns-4 : tie.Need-returns-4
-unfolding checked need widthRight kindRight
-returns-4 c = rw (sym (c .before .stamp-right .ensures) ∙ c .if1 .left)
+returns-2 c = c .fit-forms .ensures ∙ rw (c .before .before .rule2 .given .1)
 
 pub fit-spec : {M : Type 1} → statement M
 fit-spec =
     tie.close
-    (tie.spec stamp-right-requires wrong-at-requires returns returns-2 returns-3 returns-4)
+    (tie.spec enum-known-rule fit-plain-requires enum-known-rule-2 fit-forms-requires returns returns-2)

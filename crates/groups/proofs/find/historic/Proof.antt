@@ -1,5 +1,6 @@
 -- The arrays hold the mode's rows, nine by nine.
 use Rattle.groups.proofs.Search.{nine-more}
+use Rattle.groups.specs.Formats.{formOf}
 use Rattle.groups.specs.Table.{historicRows}
 use borrow.Author.Needs.{needs}
 use Rattle.groups.proofs.find.historic.Statement.{statement}
@@ -18,7 +19,7 @@ search-requires-4 : tie.Need-search-requires-4
 search-requires-4 c κs = search needs
 
 returns : tie.Need-returns
-unfolding historicRows
+unfolding historicRows formOf
 returns c =
     let at-3 = c .before in
     let at-2 = at-3 .before in

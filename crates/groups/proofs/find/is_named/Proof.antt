@@ -7,14 +7,12 @@ use Rattle.groups.proofs.find.is_named.Statement.{statement}
 use Rattle.groups.proofs.find.is_named.Tie as tie
 
 array-share-prefix-bytes : tie.Need-array-share-prefix-bytes
-array-share-prefix-bytes c =
-    let h : length (c .before .before .args .row .0) ≡ 9 = search needs in
-    omega arith
+array-share-prefix-bytes c = search needs
 
 slice-aggregate-are-same : tie.Need-slice-aggregate-are-same
 slice-aggregate-are-same c =
-    let start = c .before .before .before in
-    let h : length (start .args .row .0) ≡ 9 = search needs in
+    let start = c .before .before in
+    let h : length (start .args .t2) ≡ 9 = search needs in
     simp length-take (omega arith)
 
 are-same-requires : tie.Need-are-same-requires
@@ -24,6 +22,4 @@ returns : tie.Need-returns
 returns c = search needs
 
 pub is-named-spec : {M : Type 1} → statement M
-is-named-spec =
-    tie.close
-    (tie.spec array-share-prefix-bytes slice-aggregate-are-same are-same-requires returns)
+is-named-spec = tie.close (tie.spec array-share-prefix-bytes slice-aggregate-are-same are-same-requires returns)

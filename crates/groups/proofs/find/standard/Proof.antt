@@ -1,5 +1,6 @@
 -- The arrays hold the rest of the rows of the mode's list, nine by nine.
 use Rattle.groups.proofs.Search.{nine-more}
+use Rattle.groups.specs.Formats.{formOf}
 use Rattle.groups.specs.Table.{standardRows}
 use borrow.Author.Needs.{needs}
 use Rattle.groups.proofs.find.standard.Statement.{statement}
@@ -21,7 +22,7 @@ search-requires-4 : tie.Need-search-requires-4
 search-requires-4 c κs = search needs
 
 returns : tie.Need-returns
-unfolding standardRows
+unfolding standardRows formOf
 returns c =
     let at-4 = c .before in
     let at-3 = at-4 .before in

@@ -92,8 +92,7 @@ returns-4 c =
     let g = start .args in
     c .fields-of .ensures ∙ ap shown (sym (behind-listed (g .mode) (g .label .now) (g .rest .now) _
     (at-if1 .if1 .left) (at-if2 .if2 .left ∙ at-separator-of .separator-of .ensures) (at-if3 .if3 .left ∙
-    at-check-by .check-by .ensures ∙ check-front (g .mode) (g .label .now) (g .rest .now) (g .front) (start .pre) (at-if1 .if1 .left)) (found-some _ _ (sym (at-find .find .ensures) ∙
-    c .before .before .found .given .1))))
+    at-check-by .check-by .ensures ∙ check-front (g .mode) (g .label .now) (g .rest .now) (g .front) (start .pre) (at-if1 .if1 .left)) (found-some _ (at-find .find .ensures) (c .before .before .found .given .1))))
 
 returns-5 : tie.Need-returns-5
 returns-5 c =
@@ -107,7 +106,7 @@ returns-5 c =
     let g = start .args in
     c .refuse4 .ensures ∙ ap shown (sym (behind-unlisted (g .mode) (g .label .now) (g .rest .now) (at-if1 .if1 .left)
     (at-if2 .if2 .left ∙ at-separator-of .separator-of .ensures) (at-if3 .if3 .left ∙ at-check-by .check-by .ensures ∙ check-front (g .mode) (g .label .now) (g .rest .now) (g .front) (start .pre) (at-if1 .if1 .left))
-    (found-none _ (sym (at-find .find .ensures) ∙ c .before .enum-told .given .1))))
+    (found-none (at-find .find .ensures) (c .before .enum-told .given .1))))
 
 pub behind-label-spec : {M : Type 1} → statement M
 behind-label-spec =

@@ -1,6 +1,7 @@
 -- The fields are cut where the stamp ends.
 use Rattle.groups.proofs.Walks.{split-at, to-end}
 use Rattle.groups.specs.Judging.{shown}
+use Rattle.groups.specs.Stored.{ruleOf}
 use borrow.Author.Needs.{needs}
 use lib.Seq.{length-take-le}
 use mathlib.Core.Path.{_∙_, ap, sym}
@@ -22,7 +23,7 @@ slice-aggregate-finish c =
     let told = c .before .before .before in
     let at = told .before .before in
     let g = at .before .before .before .args in
-    let split = split-at (g .mode) (g .rule) (g .body .now) (at .stamp-end .ensures) (told .parted .given .1) in
+    let split = split-at (g .mode) (ruleOf (g .rule)) (g .body .now) (at .stamp-end .ensures) (told .parted .given .1) in
     sym (length-take-le _ (g .body .now) (split .0))
 
 sub-finish : tie.Need-sub-finish
@@ -30,7 +31,7 @@ sub-finish c =
     let told = c .before .before .before in
     let at = told .before .before in
     let g = at .before .before .before .args in
-    let split = split-at (g .mode) (g .rule) (g .body .now) (at .stamp-end .ensures) (told .parted .given .1) in
+    let split = split-at (g .mode) (ruleOf (g .rule)) (g .body .now) (at .stamp-end .ensures) (told .parted .given .1) in
     omega (arith, c .before .stamp-span .ensures .0, split .1)
 
 part-finish-start : tie.Need-part-finish-start
@@ -38,7 +39,7 @@ part-finish-start c =
     let told = c .before .before .before in
     let at = told .before .before in
     let g = at .before .before .before .args in
-    let split = split-at (g .mode) (g .rule) (g .body .now) (at .stamp-end .ensures) (told .parted .given .1) in
+    let split = split-at (g .mode) (ruleOf (g .rule)) (g .body .now) (at .stamp-end .ensures) (told .parted .given .1) in
     omega (arith, c .before .stamp-span .ensures .0, split .1)
 
 part-finish-end : tie.Need-part-finish-end
@@ -58,7 +59,7 @@ returns c =
     let told = c .before .before .before .before .before in
     let at = told .before .before in
     let g = at .before .before .before .args in
-    let split = split-at (g .mode) (g .rule) (g .body .now) (at .stamp-end .ensures) (told .parted .given .1) in
+    let split = split-at (g .mode) (ruleOf (g .rule)) (g .body .now) (at .stamp-end .ensures) (told .parted .given .1) in
     c .finish .ensures ∙ rw (
       to-end (c .before .before .before .stamp-span .result) (g .body .now),
       c .before .before .before .stamp-span .ensures .0,
@@ -68,7 +69,7 @@ returns-2 : tie.Need-returns-2
 returns-2 c =
     let at = c .before .before .before in
     let g = at .before .before .before .args in
-    c .refuse .ensures ∙ ap shown (sym (split-at (g .mode) (g .rule) (g .body .now) (at .stamp-end .ensures)
+    c .refuse .ensures ∙ ap shown (sym (split-at (g .mode) (ruleOf (g .rule)) (g .body .now) (at .stamp-end .ensures)
     (c .before .enum-told .given .1) (g .label .now)))
 
 pub fields-of-spec : {M : Type 1} → statement M

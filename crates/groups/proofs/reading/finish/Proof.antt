@@ -2,6 +2,7 @@
 use Rattle.groups.proofs.Views.{fit-right, fit-wrong}
 use Rattle.groups.specs.Judging.{shown}
 use Rattle.groups.specs.Laws.Groups.{checked-right}
+use Rattle.groups.specs.Stored.{ruleOf}
 use borrow.Author.Needs.{needs}
 use mathlib.Core.Path.{_∙_, ap, sym}
 use Rattle.groups.proofs.reading.finish.Statement.{statement}
@@ -27,7 +28,7 @@ returns c =
     let at-fit = c .before .before .before .before in
     let start = at-fit .before .before .before .before in
     let g = start .args in
-    c .refuse .ensures ∙ ap shown (sym (fit-wrong (g .rule) (g .stamp .now) (g .«data» .now) _ _ _ (sym
+    c .refuse .ensures ∙ ap shown (sym (fit-wrong (ruleOf (g .rule)) (g .stamp .now) (g .«data» .now) _ _ _ (sym
     (at-fit .fit .ensures) ∙ c .before .before .fitness .given .1)))
 
 returns-2 : tie.Need-returns-2
@@ -35,7 +36,7 @@ returns-2 c =
     let at-fit = c .before .before .before in
     let start = at-fit .before .before .before .before in
     let g = start .args in
-    c .place .ensures ∙ ap shown (sym (checked-right (g .rule) (g .stamp .now) (g .«data» .now) _ (fit-right (g .rule)
+    c .place .ensures ∙ ap shown (sym (checked-right (ruleOf (g .rule)) (g .stamp .now) (g .«data» .now) _ (fit-right (ruleOf (g .rule))
     (g .stamp .now) (g .«data» .now) _ (sym (at-fit .fit .ensures) ∙ c .before .enum-told .given .1))))
 
 pub finish-spec : {M : Type 1} → statement M

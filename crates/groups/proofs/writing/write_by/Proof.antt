@@ -2,6 +2,7 @@
 use Rattle.groups.proofs.Laying.{write-wrong, wrote-as}
 use Rattle.groups.proofs.Views.{fit-right, fit-wrong}
 use Rattle.groups.specs.Groups.{groupOf}
+use Rattle.groups.specs.Stored.{ruleOf}
 use borrow.Author.Needs.{needs}
 use lib.ListN.{length}
 use mathlib.Core.Path.{_∙_, sym}
@@ -26,7 +27,7 @@ write-right-requires c κs =
     let start = at-fit .before .before .before .before .before in
     let g = start .args in (
       start .pre,
-      fit-right (g .rule) (g .stamp .now) (g .«data» .now) _ (sym (at-fit .fit .ensures) ∙
+      fit-right (ruleOf (g .rule)) (g .stamp .now) (g .«data» .now) _ (sym (at-fit .fit .ensures) ∙
           c .before .enum-told .given .1),
     )
 
@@ -40,7 +41,7 @@ returns c =
     let start = at-fit .before .before .before .before .before in
     let g = start .args in
     wrote-as (g .buffer .now) _ _ (write-wrong (g .mode) (groupOf (g .label .now) (g .stamp .now) (g .«data» .now))
-    (length (g .buffer .now)) (g .rule) _ (λ a. fit-wrong (g .rule) (g .stamp .now) (g .«data» .now) _ a _ (sym
+    (length (g .buffer .now)) (ruleOf (g .rule)) _ (λ a. fit-wrong (ruleOf (g .rule)) (g .stamp .now) (g .«data» .now) _ a _ (sym
     (at-fit .fit .ensures) ∙ at-fitness .fitness .given .1))) (c .before .before .stop .ensures)
 
 same-length-2 : tie.Need-same-length-2

@@ -4,7 +4,6 @@ use Rattle.groups.proofs.Views.{found-none, found-some}
 use Rattle.groups.specs.Groups.{groupOf}
 use borrow.Author.Needs.{needs}
 use lib.ListN.{length}
-use mathlib.Core.Path.{_∙_, sym}
 use Rattle.groups.proofs.writing.write_in.Statement.{statement}
 use Rattle.groups.proofs.writing.write_in.Tie as tie
 
@@ -19,8 +18,7 @@ write-by-requires c κs =
     let at-find = c .before .before .before .before in
     let start = at-find .before .before .before .before .before in
     let g = start .args in
-    listed-short (g .mode) (g .label .now) _ (found-some _ _ (sym (at-find .find .ensures) ∙
-    c .before .before .found .given .1))
+    listed-short (g .mode) (g .label .now) _ (found-some _ (at-find .find .ensures) (c .before .before .found .given .1))
 
 enum-told : tie.Need-enum-told
 enum-told c = search needs
@@ -38,7 +36,7 @@ returns c =
     let start = at-find .before .before .before .before .before in
     let g = start .args in
     wrote-as (g .buffer .now) _ _ (write-listed (g .mode) (groupOf (g .label .now) (g .stamp .now) (g .«data» .now))
-    (length (g .buffer .now)) _ (found-some _ _ (sym (at-find .find .ensures) ∙ at-found .found .given .1)))
+    (length (g .buffer .now)) _ (found-some _ (at-find .find .ensures) (at-found .found .given .1)))
     (c .before .before .write-by .ensures)
 
 same-length-2 : tie.Need-same-length-2
@@ -51,7 +49,7 @@ returns-2 c =
     let start = at-find .before .before .before .before .before in
     let g = start .args in
     wrote-as (g .buffer .now) _ _ (write-unlisted (g .mode) (groupOf (g .label .now) (g .stamp .now) (g .«data» .now))
-    (length (g .buffer .now)) (found-none _ (sym (at-find .find .ensures) ∙ at-enum-told .enum-told .given .1)))
+    (length (g .buffer .now)) (found-none (at-find .find .ensures) (at-enum-told .enum-told .given .1)))
     (c .before .before .stop .ensures)
 
 pub write-in-spec : {M : Type 1} → statement M

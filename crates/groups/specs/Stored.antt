@@ -1,0 +1,141 @@
+-- The table as the code stores it (`src/table.rt` says what stands where). Only contracts of private functions cite this; that
+-- the stored rows and forms are those of `Table.antt` is computed in the proofs of `find` and of `form_of`.
+use mathlib.Core.Bool.{Bool}
+use mathlib.Core.Option.{Option, none, some}
+use mathlib.Core.List.{List, [], _∷_, _++_}
+use Prim.Native.Nat.{ℕ, zero, suc, _+_, max}
+use lib.Dec.{eqb, leb}
+use lib.ListN.{take, length}
+use Rattle.characters.specs.Answers.{pick}
+use Rattle.groups.specs.Forms.{Form, takes, lastOf, hasLength}
+use Rattle.groups.specs.Formats.{Field, run, Rule}
+use Rattle.groups.specs.Table.{
+  Entry,
+  plain,
+  exactly,
+  either,
+  name,
+  date,
+  averagePower,
+  energy,
+  subscribedPower,
+  tangent,
+  power,
+  notice,
+  datedName,
+}
+use Rattle.groups.specs.declared.find.Found.{Found}
+use Rattle.groups.specs.declared.find.Found.the-variants.{Listed, Unlisted}
+use Rattle.groups.specs.declared.table.Kind.the-variants.{Digits}
+use Rattle.groups.specs.declared.table.Mark.the-variants.{Unstamped}
+use Rattle.groups.specs.declared.table.Plain.{Plain}
+use Rattle.groups.specs.declared.table.Forms.{Forms}
+use Rattle.groups.specs.declared.table.Form.{Form as StoredForm}
+use Rattle.groups.specs.declared.table.Row.{Row}
+use Rattle.groups.specs.declared.table.FormedRow.{FormedRow}
+use Rattle.groups.specs.declared.table.Rule.{Rule as StoredRule}
+use Rattle.groups.specs.declared.table.Rule.the-variants as stored
+
+-- ---- Forms by their numbers
+
+-- the formats of mode 2, each a form of the table
+unfoldable pub numbered : List (List Field)
+numbered =
+    exactly "TEST"
+    ++ date
+    ++ energy "Wh"
+    ++ energy "varh"
+    ++ energy "VAh"
+    ++ either "ACTIF" "INACTIF"
+    ++ notice
+    ++ datedName
+    ++ exactly "CONTROLE"
+    ++ either "CONSO" "PROD"
+    ++ averagePower
+    ++ energy "kWh"
+    ++ energy "kvarh"
+    ++ subscribedPower
+    ++ either "DEP" "DEP "
+    ++ power
+    ++ tangent
+    ++ name 12 12
+    ++ name 10 10
+    ++ name 1 3
+    ++ name 3 3
+
+-- what stands under a number, in a list that begins with number k; a format that takes nothing where there is none
+unfoldable pub under : ℕ → List (List Field) → ℕ → List Field
+under k [] n = run Digits 1 0 ∷ []
+under k (format ∷ more) n = pick (eqb n k) format (under (k + 1) more n)
+
+abbrev pub formatAt : ℕ → List Field
+formatAt n = under 0 numbered n
+
+-- so many from a number on
+unfoldable pub formatsFrom : ℕ → ℕ → List (List Field)
+formatsFrom first zero = []
+formatsFrom first (suc count) = formatAt first ∷ formatsFrom (first + 1) count
+
+-- a stored form: its picture stands at the end of its room
+unfoldable pub formIn : StoredForm → Form
+formIn f = record { least = f .0; picture = lastOf (f .1) (f .2) }
+
+-- ---- Rows and rules
+
+abbrev pub plainRule : Plain → Rule
+plainRule p = record { mark = p .mark; smallest = p .width; largest = p .width; formats = plain (p .kind) (p .width) }
+
+abbrev pub formedRule : Forms → Rule
+formedRule f =
+    record {
+      mark = Unstamped;
+      smallest = f .smallest;
+      largest = f .largest;
+      formats = formatsFrom (f .first) (f .count);
+    }
+
+abbrev pub ruleOf : StoredRule → Rule
+ruleOf (stored.Plain p) = plainRule p
+ruleOf (stored.Formed f) = formedRule f
+
+abbrev pub entryOf : Row → Entry
+entryOf r = record { label = take (r .1) (r .0); rule = plainRule (record { width = r .2; kind = r .3; mark = r .4 }) }
+
+abbrev pub formedEntry : FormedRow → Entry
+formedEntry r =
+    record {
+      label = take (r .1) (r .0);
+      rule = formedRule (record { smallest = r .2; largest = r .3; first = r .4; count = r .5 });
+    }
+
+abbrev pub labelFits : Row → Bool
+labelFits r = leb (r .1) 9
+
+abbrev pub formedFits : FormedRow → Bool
+formedFits r = leb (r .1) 9
+
+-- what was found before, or else what is found now
+abbrev pub orElse : Option Rule → Option Rule → Option Rule
+orElse none now = now
+orElse (some rule) now = some rule
+
+-- the rule that was found, if one was
+abbrev pub ruleFound : Found → Option Rule
+ruleFound Unlisted = none
+ruleFound (Listed r) = some (ruleOf r)
+
+-- ---- How far data get in forms
+
+-- how many characters of data, from the first on, a picture takes
+unfoldable pub agreed : List ℕ → List ℕ → ℕ
+agreed [] d = 0
+agreed (p ∷ picture) [] = 0
+agreed (p ∷ picture) (c ∷ d) = pick (takes p c) (suc (agreed picture d)) 0
+
+-- 0 where the form has not their length, else one more than its picture takes of them
+unfoldable pub reach : Form → List ℕ → ℕ
+reach f d = pick (hasLength f (length d)) (suc (agreed (lastOf (length d) (f .picture)) d)) 0
+
+unfoldable pub furthest : List Form → List ℕ → ℕ
+furthest [] d = 0
+furthest (f ∷ more) d = max (reach f d) (furthest more d)
