@@ -2,11 +2,14 @@
 use mathlib.Core.Path.{_≡_, refl, sym, ap, _∙_}
 use mathlib.Core.Bool.{Bool, true, false}
 use mathlib.Core.Option.{Option, none, some}
-use mathlib.Core.List.{List, [], _∷_, _++_, append-assoc, append-nil}
+use mathlib.Core.List.{List, [], _∷_, _++_, map, append-assoc, append-nil}
 use Prim.Native.Nat.{ℕ, _≤_}
 use native.Mathlib.Omega.{arith}
 use lib.ListN.{length}
+use borrow.Author.Tests.{ne-eqb}
+use Rattle.characters.specs.Answers.{pick}
 use Rattle.groups.specs.Modes.{isMode}
+use Rattle.groups.specs.Table.{codes}
 use Rattle.line.specs.Lines.{LineAnswer, State, after, answers, outside}
 use Rattle.line.specs.State.{stateOf, openingOf}
 use Rattle.line.specs.Views.{opened-view}
@@ -84,3 +87,13 @@ fresh-in (some mode) l e = (mode, refl, opened-in mode l (isMode mode) refl e)
 pub opened-fresh : (letter : ℕ) (l : LineState) → openingIn (modeBy letter) ≡ Opened l
     → (mode : ℕ) × (modeBy letter ≡ some mode) × Fresh mode l
 opened-fresh letter = fresh-in (modeBy letter)
+
+-- ---- The letters
+
+pub letters-known : map modeBy (codes "HSP") ≡ some 0 ∷ some 1 ∷ some 2 ∷ []
+unfolding modeBy pick
+letters-known = refl
+
+pub letter-unknown : (letter : ℕ) → (letter ≡ 0x48 → ⊥) → (letter ≡ 0x53 → ⊥) → (letter ≡ 0x50 → ⊥) → modeBy letter ≡ none
+unfolding modeBy pick
+letter-unknown letter h s p = rw (ne-eqb letter 0x48 h, ne-eqb letter 0x53 s, ne-eqb letter 0x50 p)

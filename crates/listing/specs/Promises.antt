@@ -1,16 +1,25 @@
 -- What is promised of the listing: only the statements need to be read. That the program writes the text that
 -- `list_next` lays, and nothing else, is no statement: no contract can speak of what is read or written.
 use mathlib.Core.Path.{_≡_}
-use mathlib.Core.Option.{some}
-use mathlib.Core.List.{List, [], _∷_, _++_}
+use mathlib.Core.Option.{none, some}
+use mathlib.Core.List.{List, [], _∷_, _++_, map}
 use Prim.Native.Nat.{ℕ, _≤_}
 use lib.ListN.{length}
+use Rattle.groups.specs.Table.{codes}
 use Rattle.line.specs.Lines.{outside}
 use Rattle.line.specs.declared.LineState.{LineState}
 use Rattle.line.specs.declared.Opening.the-variants.{Opened}
 use Rattle.listing.specs.Listing.{modeBy, listing, joined, linesByPiece}
 use Rattle.listing.specs.Parts.{Fresh, openingIn}
-use Rattle.listing.specs.Laws.{listing-by-piece, listing-begins, listing-alone, opened-fresh}
+use Rattle.listing.specs.Laws.{letters-known, letter-unknown, listing-by-piece, listing-begins, listing-alone, opened-fresh}
+
+-- "`H` or `S`", and "`P` begins such a capture" (M-100): these letters begin captures of modes 0, 1 and 2.
+pub letters-exactly : map modeBy (codes "HSP") ≡ some 0 ∷ some 1 ∷ some 2 ∷ []
+letters-exactly = letters-known
+
+-- No other byte begins a capture.
+pub no-other-letter : (letter : ℕ) → (letter ≡ 0x48 → ⊥) → (letter ≡ 0x53 → ⊥) → (letter ≡ 0x50 → ⊥) → modeBy letter ≡ none
+no-other-letter = letter-unknown
 
 -- However a capture is cut into pieces, the lines of the pieces, one behind the other, are its listing.
 pub cut-anywhere : (letter mode : ℕ) → modeBy letter ≡ some mode → (pieces : List (List ℕ))
