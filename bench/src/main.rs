@@ -4,6 +4,7 @@ mod busy;
 mod captures;
 mod clock;
 mod listing;
+mod lookup;
 mod ours;
 mod picture;
 mod plain;
@@ -22,6 +23,11 @@ const USAGE: &str = "usage: bench make KIND BYTES                       writes a
        bench tally                                 plain reader: counts its answers
        bench station ours|plain LINES [check]      feeds it to so many lines; check: one number for all answers
        bench worst ours|plain TIMES [idle]         makes the worst round; idle: all but the round
+       bench lookup ours|plain MODE WHICH right|wrong TIMES
+                                                   judges groups of these labels, with a right check character, up to the
+                                                   test behind the look-up, or a wrong one, up to that before it; MODE:
+                                                   historic, standard or business; WHICH: first, middle, last, each or
+                                                   missing
        bench stack                                 ours: the bytes of stack that each call takes
        bench time TIMES FILE COMMAND..             nanoseconds of the quickest run with the file as input
        bench picture                               draws the figures on standard input (SVG)";
@@ -95,6 +101,25 @@ fn run(words: &[String]) -> io::Result<bool> {
                 Reader::Plain => worst::run::<plain::station::Station>(times, with_round),
             };
             io::stdout().write_all(&sheet)?;
+        }
+        ["lookup", reader, mode, which, check, times] => {
+            let (Some(reader), Some(mode), Some(which), Some(check), Ok(times)) = (
+                Reader::from_name(reader),
+                Mode::from_name(mode),
+                lookup::Which::from_name(which),
+                lookup::Check::from_name(check),
+                times.parse(),
+            ) else {
+                return Ok(false);
+            };
+            let groups = lookup::groups(mode, which, check);
+            match reader {
+                Reader::Ours => lookup::run(lookup::by_ours, mode, &groups, times),
+                Reader::Plain => lookup::run(lookup::by_plain, mode, &groups, times),
+            }
+            for group in groups {
+                println!("{} {}", group.label, group.refusal);
+            }
         }
         ["stack"] => {
             for (name, bytes) in stack::table() {

@@ -56,6 +56,13 @@ extern "C" {
     ) -> u32;
 }
 
+/// The number for the content of one group.
+pub fn judge(mode: u32, content: &[u8]) -> u32 {
+    let mut stretches = [0; 6];
+    // SAFETY: every mode has its answer; pointer and length are those of one slice, which the six numbers can't overlap.
+    unsafe { espandim_judge(mode, content.as_ptr(), content.len(), &mut stretches) }
+}
+
 /// `struct espandim_station`: four arrays, with a row for each line. Zeros are the station with all lines closed, and
 /// no bytes are a wrong station.
 #[derive(Clone)]

@@ -1,6 +1,7 @@
 //! Made-up traffic of a line, and captures of it.
 
 use crate::drafts::{Generator, Spoiling, EDGE_SIZES};
+use crate::near_labels::MISSES_ON_LINE;
 use crate::table::{all_rules, Mode};
 use crate::wire::{
     all_to_wire, to_wire, CARRIAGE_RETURN, END_OF_TEXT, END_OF_TRANSMISSION, LINE_FEED, SPACE,
@@ -205,7 +206,9 @@ impl Generator {
         } else {
             mode
         };
-        let draft = if spoilt {
+        let draft = if spoilt && self.dice.percent(15) {
+            self.near_label_draft(mode, &MISSES_ON_LINE)
+        } else if spoilt {
             self.spoilt_draft(mode, &SPOILINGS_ON_LINE)
         } else {
             self.note("right group");
@@ -228,11 +231,15 @@ impl Generator {
             .collect()
     }
 
-    /// A frame whose one group has a size at an edge, perhaps damaged or
-    /// broken off as well.
+    /// A frame whose one group has a size at an edge, or hardly any characters,
+    /// perhaps damaged or broken off as well.
     fn frame_with_sized_group(&mut self, mode: Mode) -> Vec<u8> {
-        let length = *self.dice.pick(&EDGE_SIZES);
-        let content = self.sized_content(mode, length);
+        let content = if self.dice.percent(15) {
+            self.short_content(mode)
+        } else {
+            let length = *self.dice.pick(&EDGE_SIZES);
+            self.sized_content(mode, length)
+        };
         let mut group = group_on_wire(&content);
         if self.dice.percent(20) {
             self.note("sized group: unsound byte added");

@@ -3,6 +3,7 @@
 use crate::dice::Dice;
 use crate::formats::{Field, Format, Kind};
 use crate::group::{check_character, days_in_month, summed_part};
+use crate::near_labels::Miss;
 use crate::table::{all_rules, stamped_rules, Mode, Rule, Season, MODES, SMALL_SEASONS};
 use crate::wire::{HORIZONTAL_TAB, SPACE};
 use std::collections::BTreeMap;
@@ -526,6 +527,30 @@ impl Generator {
             let place = self.dice.below(part.len());
             part[place] |= 0x80;
         }
+    }
+
+    /// A content with separators and a right check character, but so short, of
+    /// about eight characters at most, that hardly any data fit: whether its
+    /// label was found shows in the refusal, which is 11 or a later one.
+    pub fn short_content(&mut self, mode: Mode) -> Vec<u8> {
+        self.note("content of hardly any characters");
+        let short: Vec<&'static Rule> = all_rules(mode)
+            .iter()
+            .filter(|rule| rule.label.len() <= 4)
+            .collect();
+        let mut draft = self.right_draft_of(mode, &short);
+        if self.dice.percent(30) {
+            let misses = [Miss::Cut, Miss::OtherEnd, Miss::Longer, Miss::ZerosBehind];
+            let miss = *self.dice.pick(&misses);
+            self.spoil_by(&mut draft.label, miss);
+        }
+        draft.stamp.clear();
+        draft.stamp_separator.clear();
+        // Both separators and the check character take three.
+        let room = 5_usize.saturating_sub(draft.label.len());
+        let length = self.dice.between(0, room);
+        draft.data = self.filling(draft.rule, length);
+        draft.content()
     }
 
     /// A content of just this many characters, in one of several forms.

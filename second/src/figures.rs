@@ -23,6 +23,7 @@ use crate::wire::{all_to_wire, character_of, is_sound, to_wire};
 use std::collections::BTreeSet;
 
 mod business;
+mod labels;
 
 const HISTORIC: u8 = 0;
 const STANDARD: u8 = 1;

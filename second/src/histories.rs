@@ -2,6 +2,7 @@
 
 use crate::captures::group_on_wire;
 use crate::drafts::{Draft, Generator, Spoiling, EDGE_SIZES};
+use crate::near_labels::MISSES_ALONE;
 use crate::replay::{perform, Call, Reply};
 use crate::station::{Station, INBOX_SIZE, LINES, SMALLEST_SHEET};
 use crate::table::Mode;
@@ -49,7 +50,8 @@ enum Plan {
 
 /// The plans take turns, so that each has its share of the histories. Groups
 /// alone stand four times, so that judging and writing meet every label, every
-/// stamped one with each small season, and every alternative.
+/// stamped one with each small season, every alternative, and labels that miss
+/// one of the list in every way.
 const PLANS: [Plan; 9] = [
     Plan::Mixed,
     Plan::GroupsAlone,
@@ -109,6 +111,12 @@ struct Maker<'generator> {
     least_width: usize,
 }
 
+/// How many histories of groups alone come before the one of this number.
+fn groups_alone_before(number: usize) -> usize {
+    let plans = PLANS.iter().cycle().take(number);
+    plans.filter(|plan| **plan == Plan::GroupsAlone).count()
+}
+
 /// How many of a hundred judged or written groups are right. Standard mode has
 /// those with a small season besides.
 fn share_of_right(mode: Mode) -> usize {
@@ -127,9 +135,9 @@ impl Generator {
     /// something that cannot be read.
     pub fn history(&mut self, number: u64) -> Vec<Item> {
         let plan = PLANS[number as usize % PLANS.len()];
-        // About as many groups of a mode are judged in a history as lie between
-        // the first turns of two histories.
-        self.first_turn = number as usize * 5;
+        // About as many groups of a mode are judged in a history of groups alone
+        // as lie between the first turns of two of them.
+        self.first_turn = groups_alone_before(number as usize) * 10;
         let mut maker = Maker {
             generator: self,
             plan,
@@ -233,7 +241,7 @@ impl Generator {
                 self.note("judging: small season");
                 self.degraded_draft().content()
             }
-            0..=81 => {
+            0..=79 => {
                 self.note("judging: spoilt group");
                 let draft = self.spoilt_draft(
                     mode,
@@ -251,7 +259,15 @@ impl Generator {
                 );
                 draft.content()
             }
-            82..=94 => {
+            80..=84 => {
+                self.note("judging: label that misses one of the list");
+                self.near_label_draft(mode, &MISSES_ALONE).content()
+            }
+            85 | 86 => {
+                self.note("judging: content of hardly any characters");
+                self.short_content(mode)
+            }
+            87..=94 => {
                 self.note("judging: content of an edge size");
                 let length = *self.dice.pick(&EDGE_SIZES);
                 self.sized_content(mode, length)
@@ -287,6 +303,10 @@ impl Generator {
             0..=63 if mode == Mode::Standard => {
                 self.note("writing: small season");
                 self.degraded_draft()
+            }
+            93..=99 => {
+                self.note("writing: label that misses one of the list");
+                self.near_label_draft(mode, &MISSES_ALONE)
             }
             _ => {
                 self.note("writing: spoilt fields");

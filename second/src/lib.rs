@@ -16,6 +16,7 @@ pub mod hexadecimal;
 pub mod histories;
 pub mod line;
 pub mod listing;
+pub mod near_labels;
 pub mod near_misses;
 pub mod numbers;
 pub mod replay;

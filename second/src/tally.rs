@@ -6,12 +6,14 @@ use crate::group::stamp_is_right;
 use crate::histories::CALLS_IN_HISTORY;
 use crate::line::{read_whole, PlacedAnswer};
 use crate::listing::open_capture;
+use crate::near_labels::{misses_of, Miss, MISSES};
 use crate::numbers::Answer;
 use crate::replay::{read_log, Call, Entry, Reply};
 use crate::station::{LINES, LONGEST_TURN};
-use crate::table::{all_rules, find_rule, stamped_rules, Mode, Rule, Season, SMALL_SEASONS};
+use crate::table::{all_rules, find_rule, stamped_rules, Mode, Rule, Season, MODES, SMALL_SEASONS};
 use crate::wire::{character_of, to_wire, HORIZONTAL_TAB, LINE_FEED};
 use std::collections::BTreeMap;
+use std::ops::RangeInclusive;
 
 /// Where an answer was seen, one column of the closing table.
 #[derive(Clone, Copy, Debug, PartialEq, Eq, PartialOrd, Ord)]
@@ -98,6 +100,11 @@ pub struct Tally {
     business: BTreeMap<BusinessKey, u64>,
     /// How often each alternative of such a label was accepted or written.
     alternatives: BTreeMap<(Place, &'static str, usize), u64>,
+    /// How often a label was refused that misses this one of the list.
+    misses: BTreeMap<(Place, Mode, Miss, &'static str), u64>,
+    /// How often a content of fewer than eight characters had one of the answers
+    /// that come once a label is looked up, 11 to 14.
+    short_contents: BTreeMap<(Place, Mode, u8), u64>,
     answers_on_64th_byte: u64,
     offsets_over_255: u64,
     largest_offset: usize,
@@ -134,6 +141,24 @@ impl Tally {
     fn note_refused(&mut self, place: Place, number: u8, mode: Mode, content: &[u8]) {
         if let (12..=14, Some(group)) = (number, Group::of_content(mode, content)) {
             self.note_group(place, number, &group);
+        }
+        match (number, label_of_content(mode, content)) {
+            // Without a label a content is not in shape, whatever else it has.
+            (9, Some(label)) if label.is_empty() => self.note_misses(place, mode, label),
+            (11, Some(label)) => self.note_misses(place, mode, label),
+            _ => {}
+        }
+        if content.len() < 8 && (11..=14).contains(&number) {
+            let key = (place, mode, number);
+            *self.short_contents.entry(key).or_insert(0) += 1;
+        }
+    }
+
+    /// Notes a label that was refused for itself.
+    fn note_misses(&mut self, place: Place, mode: Mode, label: &[u8]) {
+        for (miss, listed) in misses_of(mode, label) {
+            let key = (place, mode, miss, listed);
+            *self.misses.entry(key).or_insert(0) += 1;
         }
     }
 
@@ -203,6 +228,28 @@ impl Tally {
         times.copied().unwrap_or(0)
     }
 
+    /// How often labels were refused that miss one of these of the list.
+    pub fn times_missed(
+        &self,
+        place: Place,
+        mode: Mode,
+        miss: Miss,
+        listed_is: impl Fn(&str) -> bool,
+    ) -> u64 {
+        let of_miss = self.misses.iter().filter(|((at, of, by, listed), _)| {
+            (*at, *of, *by) == (place, mode, miss) && listed_is(listed)
+        });
+        of_miss.map(|(_, times)| times).sum()
+    }
+
+    /// How often a content of fewer than eight characters had one of these
+    /// answers, from 11 through 14.
+    pub fn times_short(&self, place: Place, mode: Mode, numbers: RangeInclusive<u8>) -> u64 {
+        numbers
+            .filter_map(|number| self.short_contents.get(&(place, mode, number)))
+            .sum()
+    }
+
     /// How often an answer was seen at all the places.
     pub fn times_answered(&self, number: u8) -> u64 {
         PLACES
@@ -233,6 +280,8 @@ impl Tally {
         add_times(&mut self.small_seasons, other.small_seasons);
         add_times(&mut self.business, other.business);
         add_times(&mut self.alternatives, other.alternatives);
+        add_times(&mut self.misses, other.misses);
+        add_times(&mut self.short_contents, other.short_contents);
         self.add_deeds(&other.deeds);
     }
 
@@ -319,6 +368,9 @@ impl Tally {
                     };
                     let number = if *number == 0 { 1 } else { *number };
                     self.note_group(Place::Writing, number, &group);
+                    if number == 11 {
+                        self.note_misses(Place::Writing, mode, label);
+                    }
                 }
             }
             _ => unreachable!("each call has its own kind of reply"),
@@ -365,7 +417,7 @@ impl Tally {
                 data,
             };
             self.note_group(Place::Sheet, entry.number, &group);
-        } else if (12..=14).contains(&entry.number) {
+        } else if matches!(entry.number, 9 | 11..=14) {
             let content = content_closed_at(&line.delivered, line.taken - 1);
             self.note_refused(Place::Sheet, entry.number, mode, &content);
         }
@@ -388,6 +440,8 @@ impl Tally {
         report.push_str(&self.report_of_labels());
         report.push_str(&self.report_of_small_seasons());
         report.push_str(&self.report_of_business());
+        report.push_str(&self.report_of_misses());
+        report.push_str(&self.report_of_short_contents());
         report.push_str(&format!(
             "turns with an answer on the 64th byte: {}\n\
              entries at an offset over 255: {}, largest offset: {}\n",
@@ -489,6 +543,45 @@ impl Tally {
             .collect()
     }
 
+    /// How many labels of the lists were missed in each way, and how often.
+    fn report_of_misses(&self) -> String {
+        let mut report = "labels of the lists that were missed by a label refused as 11 (as 9, \
+                          where a content has none), and how often:\n"
+            .to_string();
+        for (miss, name) in MISSES {
+            let shares = GROUP_PLACES.map(|(place, place_name)| {
+                let times: Vec<u64> = self
+                    .misses
+                    .iter()
+                    .filter(|((at, _, by, _), _)| (*at, *by) == (place, miss))
+                    .map(|(_, times)| *times)
+                    .collect();
+                let all: u64 = times.iter().sum();
+                format!("{place_name} {}, {all} times", times.len())
+            });
+            report.push_str(&format!("  {name}: {}\n", shares.join("; ")));
+        }
+        report
+    }
+
+    /// How often contents of fewer than eight characters had a label that was
+    /// not in the list, and one that was.
+    fn report_of_short_contents(&self) -> String {
+        let mut report =
+            "contents of fewer than eight characters refused as 11, and as 12 to 14:\n".to_string();
+        for (place, name) in GROUP_PLACES {
+            let [unlisted, listed] = [11..=11, 12..=14].map(|numbers| {
+                let times = MODES.map(|mode| self.times_short(place, mode, numbers.clone()));
+                times.iter().sum::<u64>()
+            });
+            // The writer is handed no content.
+            if place != Place::Writing {
+                report.push_str(&format!("  {name}: {unlisted} and {listed}\n"));
+            }
+        }
+        report
+    }
+
     /// With how many stamped labels h and e were met at the places that see
     /// groups, and how often the rarest of them.
     fn report_of_small_seasons(&self) -> String {
@@ -550,6 +643,15 @@ fn add_times<Key: Ord>(sums: &mut BTreeMap<Key, u64>, more: BTreeMap<Key, u64>) 
     for (key, times) in more {
         *sums.entry(key).or_insert(0) += times;
     }
+}
+
+/// What stands before the first separator of a content, if another one stands
+/// where the final one must.
+fn label_of_content(mode: Mode, content: &[u8]) -> Option<&[u8]> {
+    let body = &content[..content.len().checked_sub(2)?];
+    let is_separator = |one: &u8| *one == mode.separator();
+    let end = body.iter().position(is_separator)?;
+    is_separator(&content[body.len()]).then_some(&body[..end])
 }
 
 /// The content of the group that the byte at this place closed.

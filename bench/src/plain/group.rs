@@ -32,6 +32,10 @@ pub struct Fields<'content> {
 }
 
 /// Judges a content of at most 128 characters; the line has seen to that.
+///
+/// Where the line alone calls it, the compiler puts it into the line's loop unasked. It is asked to, since the look-up is
+/// measured by a second call, which would otherwise slow the line down by 4 to 8 parts in a hundred.
+#[inline(always)]
 pub fn judge(mode: Mode, content: &[u8]) -> Result<Fields<'_>, Notice> {
     let separator = mode.separator();
     let [body @ .., last_separator, check] = content else {

@@ -25,6 +25,15 @@ impl Mode {
         self as u32
     }
 
+    pub fn from_name(name: &str) -> Option<Mode> {
+        match name {
+            "historic" => Some(Mode::Historic),
+            "standard" => Some(Mode::Standard),
+            "business" => Some(Mode::Business),
+            _ => None,
+        }
+    }
+
     /// The mode that the first byte of a capture names.
     pub fn from_letter(letter: u8) -> Option<Mode> {
         match letter {

@@ -1,6 +1,8 @@
 -- Laws that only the proofs of functions need.
 pub mod Views
 pub mod Walks
+pub mod Keys
 pub mod Search
 pub mod Pictures
+pub mod Between
 pub mod Laying

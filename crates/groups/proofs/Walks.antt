@@ -2,11 +2,11 @@
 use mathlib.Core.Path.{_≡_, refl, sym, ap, subst, _∙_}
 use mathlib.Core.Bool.{Bool, true, false, _&&_}
 use mathlib.Core.List.{List, [], _∷_, _++_}
-use Prim.Native.Nat.{ℕ, zero, suc, _+_, _-_, _*_, _%_, _<_, _≤_}
+use Prim.Native.Nat.{ℕ, zero, suc, _+_, _-_, _*_, _%_, _<_, _≤_, min}
 use native.Mathlib.Numerals.{add-one, unary-clauses}
 use native.Mathlib.Omega.{arith}
 use lib.Dec.{T, eqb, leb, leb→le}
-use lib.ListN.{length, getD, take, drop, drop-of-length-le, length-drop}
+use lib.ListN.{length, getD, take, drop, drop-of-length-le, length-drop, length-take}
 use lib.Seq.{drop-cons, getD-drop, take-add, take-all}
 use mir.Facts.{and-yes}
 use borrow.Author.Tests.{eq-eqb, ne-eqb, eqb-true, eqb-false}
@@ -18,12 +18,24 @@ use Rattle.groups.specs.Formats.{Rule}
 use Rattle.groups.specs.Table.{same}
 use Rattle.groups.specs.Groups.{total, check}
 use Rattle.groups.specs.Conditions.{firstAt}
-use Rattle.groups.specs.Inside.{wrongAt, checkFrom, RightUpTo, ContentWalk, Split, FrontSum}
+use Rattle.groups.specs.Inside.{wrongAt, checkFrom, RightUpTo, ContentWalk, Split, FrontSum, StartsWith}
+use Rattle.groups.specs.Laws.Tests.{split}
 use Rattle.groups.specs.Laws.Conditions.{front-behind}
 use Rattle.groups.specs.declared.Mode.{Mode}
 use Rattle.groups.specs.declared.reading.Parted.{Parted}
 use Rattle.groups.specs.declared.table.Kind.the-variants.{Digits}
 use Rattle.groups.specs.declared.Mode.the-variants.{Historic, Standard, Business}
+
+-- a content begins with what is taken from its front
+pub starts-with : (n : ℕ) (c : List ℕ) → StartsWith (take n c) c
+starts-with n c = record { inside = simp length-take (omega arith); begins = whole (length-take n c) }
+  where
+    whole : length (take n c) ≡ min n (length c) → take (length (take n c)) c ≡ take n c
+    whole e =
+        split n (length c)
+        (λ h. let z : length (take n c) ≡ n = simp length-take (omega arith) in rw z)
+        (λ h. let z : length (take n c) ≡ length c = simp length-take (omega arith) in
+        rw z (take-all (length c) c (omega arith) ∙ sym (take-all n c (omega arith))))
 
 -- a part that runs to the end
 pub to-end : {A : Type 0} (a : ℕ) (s : List A) → take (length s - a) (drop a s) ≡ drop a s

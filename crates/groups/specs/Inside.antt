@@ -83,6 +83,11 @@ pub record FrontSum (m : Mode) (label rest : List ℕ) (front : ℕ) : Type 0 wh
   pub small : front ≤ 32640
   pub front-is : 2 ≤ length rest → front ≡ total (label ++ separator m ∷ take (length rest - 2) rest)
 
+-- a content begins with a label
+pub record StartsWith (label c : List ℕ) : Type 0 where
+  pub inside : length label ≤ length c
+  pub begins : take (length label) c ≡ label
+
 -- ---- Writing
 
 -- the bytes w laid from place `at` on, up to place n, turn the buffer b₀ into b

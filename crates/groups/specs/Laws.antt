@@ -4,6 +4,8 @@ pub mod Tests
 pub mod Forms
 pub mod Cuts
 pub mod Table
+pub mod Order
+pub mod Packed
 pub mod Groups
 pub mod Places
 pub mod OnTheWire

@@ -16,7 +16,9 @@ pub mod Made
 pub mod Conditions
 pub mod WriterConditions
 pub mod Stretches
+pub mod Order
 pub mod Stored
+pub mod Packed
 pub mod Inside
 pub mod RightStamps
 pub mod Right

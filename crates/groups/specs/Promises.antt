@@ -2,9 +2,9 @@
 use mathlib.Core.Path.{_≡_, refl}
 use mathlib.Core.Logic.{_↔_}
 use mathlib.Core.Bool.{not}
-use mathlib.Core.Option.{some}
+use mathlib.Core.Option.{none, some}
 use mathlib.Core.List.{List, [], _∷_, _++_, map, List·Memᴰ}
-use Prim.Native.Nat.{ℕ, _+_, _≤_, _<_}
+use Prim.Native.Nat.{ℕ, _+_, _^_, _≤_, _<_}
 use lib.Dec.{T, eqb, ltb}
 use lib.ListN.{length, getD}
 use Rattle.characters.specs.Answers.{given, every, firstOf}
@@ -13,7 +13,9 @@ use Rattle.groups.specs.Modes.{modeOf, isMode}
 use Rattle.groups.specs.Kinds.{ofKind}
 use Rattle.groups.specs.Forms.{someFits}
 use Rattle.groups.specs.Formats.{Rule, forms}
-use Rattle.groups.specs.Table.{rows, plain}
+use Rattle.groups.specs.Table.{Entry, rows, plain, lookup}
+use Rattle.groups.specs.Order.{before, Before, inOrder, halving}
+use Rattle.groups.specs.Packed.{keyOf}
 use Rattle.groups.specs.Stamps.{isStamped, stampRight}
 use Rattle.groups.specs.Groups.{Group, groupOf}
 use Rattle.groups.specs.Numbers.{numberOfRefusal, numberOf, numberOfWriting}
@@ -29,6 +31,17 @@ use Rattle.groups.specs.Made.{someMade}
 use Rattle.groups.specs.Listed.{OnPage, asOnPage, page}
 use Rattle.groups.specs.Seasons.{Season, letterOf, degraded, isPeak, closed}
 use Rattle.groups.specs.Laws.Listed.{rows-as-listed}
+use Rattle.groups.specs.Laws.Order.{
+  rows-ordered,
+  order-by-place,
+  halving-is-lookup,
+  halved-seven-times,
+  before-extension,
+  high-bytes-behind,
+  empty-is-missing,
+  longer-is-missing,
+}
+use Rattle.groups.specs.Laws.Packed.{key-order}
 use Rattle.groups.specs.Laws.Right.{found-listed}
 use Rattle.groups.specs.Laws.Stamps.{kinds-agree, stamps-agree}
 use Rattle.groups.specs.Laws.Unknown.{known-below}
@@ -98,6 +111,42 @@ pub unstamped-written : (label : List ℕ) (rule : Rule) → List·Memᴰ (recor
     → (x : ℕ) (rest d : List ℕ) (room : ℕ)
     → numberOfWriting (told (writing 2 (groupOf label (x ∷ rest) d) room) .outcome) ≡ 12
 unstamped-written = stamp-refused
+
+-- Document 02, M-107: "Keep it sorted by bytes": each label of a mode stands before all that follow it. One text stands before
+-- another exactly when they are the same up to some place, and there the first one ends or has the lower byte.
+pub labels-in-order : (m : Mode) → T (inOrder (rows m))
+labels-in-order = rows-ordered
+
+pub order-exactly : (a b : List ℕ) → T (before a b) ↔ Before a b
+order-exactly = order-by-place
+
+-- "halve the range instead": in any list of rows that is in order, for any sequence of bytes, halving finds what the search from
+-- the top finds, where it is done so often that one row is left; in the lists of the modes, seven times.
+pub halving-finds : (n : ℕ) (list : List Entry) → length list ≤ 2 ^ n → T (inOrder list) → (label : List ℕ)
+    → halving n label list ≡ lookup label list
+halving-finds = halving-is-lookup
+
+pub seven-halvings : (m : Mode) (label : List ℕ) → halving 7 label (rows m) ≡ lookup label (rows m)
+seven-halvings = halved-seven-times
+
+-- The code compares labels by the number that their first eight bytes make, the first on top: a lower number is that of a text
+-- that stands before.
+pub keys-as-bytes : (a b : List ℕ) → ((i : ℕ) → getD a i 0 < 256) → ((i : ℕ) → getD b i 0 < 256) → keyOf a < keyOf b → T (before a b)
+keys-as-bytes = key-order 8
+
+-- A text stands before its own extensions, and one that begins with a byte of 128 or more behind all rows; the empty label and one
+-- of more than nine bytes are in no list.
+pub extension-behind : (label : List ℕ) (x : ℕ) (rest : List ℕ) → T (before label (label ++ x ∷ rest))
+extension-behind = before-extension
+
+pub high-byte-behind : (m : Mode) (x : ℕ) (rest : List ℕ) → 128 ≤ x → T (every (λ e. before (e .label) (x ∷ rest)) (rows m))
+high-byte-behind = high-bytes-behind
+
+pub empty-missing : (m : Mode) → lookup [] (rows m) ≡ none
+empty-missing = empty-is-missing
+
+pub longer-missing : (m : Mode) (label : List ℕ) → 9 < length label → lookup label (rows m) ≡ none
+longer-missing = longer-is-missing
 
 -- A character passes the test of a kind exactly when it is one of those that are spelled out for the kind.
 pub kind-exactly : (kind : Kind) (c : ℕ) → T (ofKind kind c) ↔ T (among (spelled kind) c)

@@ -1,16 +1,14 @@
--- The table as the code stores it (`src/table.rt` says what stands where). Only contracts of private functions cite this; that
--- the stored rows and forms are those of `Table.antt` is computed in the proofs of `find` and of `form_of`.
-use mathlib.Core.Bool.{Bool}
+-- Forms and rules as the code stores them (`src/table.rt` says what stands where; its rows are in `Packed.antt`). Only contracts
+-- of private functions cite this; that the stored forms are those of `Table.antt` is computed in the proof of `form_of`.
 use mathlib.Core.Option.{Option, none, some}
 use mathlib.Core.List.{List, [], _∷_, _++_}
-use Prim.Native.Nat.{ℕ, zero, suc, _+_, max}
-use lib.Dec.{eqb, leb}
-use lib.ListN.{take, length}
+use Prim.Native.Nat.{ℕ, zero, suc, _+_, _<_, _≤_, max}
+use lib.Dec.{eqb}
+use lib.ListN.{length, getD}
 use Rattle.characters.specs.Answers.{pick}
 use Rattle.groups.specs.Forms.{Form, takes, lastOf, hasLength}
 use Rattle.groups.specs.Formats.{Field, run, Rule}
 use Rattle.groups.specs.Table.{
-  Entry,
   plain,
   exactly,
   either,
@@ -31,8 +29,6 @@ use Rattle.groups.specs.declared.table.Mark.the-variants.{Unstamped}
 use Rattle.groups.specs.declared.table.Plain.{Plain}
 use Rattle.groups.specs.declared.table.Forms.{Forms}
 use Rattle.groups.specs.declared.table.Form.{Form as StoredForm}
-use Rattle.groups.specs.declared.table.Row.{Row}
-use Rattle.groups.specs.declared.table.FormedRow.{FormedRow}
 use Rattle.groups.specs.declared.table.Rule.{Rule as StoredRule}
 use Rattle.groups.specs.declared.table.Rule.the-variants as stored
 
@@ -80,7 +76,7 @@ formatsFrom first (suc count) = formatAt first ∷ formatsFrom (first + 1) count
 unfoldable pub formIn : StoredForm → Form
 formIn f = record { least = f .0; picture = lastOf (f .1) (f .2) }
 
--- ---- Rows and rules
+-- ---- Rules
 
 abbrev pub plainRule : Plain → Rule
 plainRule p = record { mark = p .mark; smallest = p .width; largest = p .width; formats = plain (p .kind) (p .width) }
@@ -97,27 +93,6 @@ formedRule f =
 abbrev pub ruleOf : StoredRule → Rule
 ruleOf (stored.Plain p) = plainRule p
 ruleOf (stored.Formed f) = formedRule f
-
-abbrev pub entryOf : Row → Entry
-entryOf r = record { label = take (r .1) (r .0); rule = plainRule (record { width = r .2; kind = r .3; mark = r .4 }) }
-
-abbrev pub formedEntry : FormedRow → Entry
-formedEntry r =
-    record {
-      label = take (r .1) (r .0);
-      rule = formedRule (record { smallest = r .2; largest = r .3; first = r .4; count = r .5 });
-    }
-
-abbrev pub labelFits : Row → Bool
-labelFits r = leb (r .1) 9
-
-abbrev pub formedFits : FormedRow → Bool
-formedFits r = leb (r .1) 9
-
--- what was found before, or else what is found now
-abbrev pub orElse : Option Rule → Option Rule → Option Rule
-orElse none now = now
-orElse (some rule) now = some rule
 
 -- the rule that was found, if one was
 abbrev pub ruleFound : Found → Option Rule
@@ -139,3 +114,16 @@ reach f d = pick (hasLength f (length d)) (suc (agreed (lastOf (length d) (f .pi
 unfoldable pub furthest : List Form → List ℕ → ℕ
 furthest [] d = 0
 furthest (f ∷ more) d = max (reach f d) (furthest more d)
+
+-- ---- Data between two texts
+
+-- from a place up to another, each character lies between those of the texts in its place
+abbrev pub Between : List ℕ → List ℕ → List ℕ → ℕ → ℕ → Type 0
+Between low high d from to =
+    (i : ℕ) → from ≤ i → i < to → (getD low i 0 ≤ getD d i 0) × (getD d i 0 ≤ getD high i 0)
+
+-- data of a right length lie between the ends of the texts
+pub record Bounded (least : ℕ) (low high d : List ℕ) : Type 0 where
+  pub enough : least ≤ length d
+  pub room : length d ≤ length low
+  pub between : Between (lastOf (length d) low) (lastOf (length d) high) d 0 (length d)

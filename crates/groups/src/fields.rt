@@ -1,6 +1,7 @@
 // What a rule asks of stamp and data; reader and writer both ask it.
 use crate::Refusal;
 use crate::Verdict;
+use crate::quick;
 use crate::stamps;
 use crate::table;
 use crate::table::Form;
@@ -187,7 +188,8 @@ fn fit_plain(rule: Plain, stamp: &[u8], data: &[u8]) -> Verdict
     Verdict::Refused(Refusal::StampWrong)
 }
 
-// The tests of data that have forms, and of their stamp, which is to be empty.
+// The tests of data that have forms, and of their stamp, which is to be empty. The quick way says yes to data that have one;
+// where it does not, how far they get in the pictures decides.
 fn fit_forms(forms: Forms, stamp: &[u8], data: &[u8]) -> Verdict
     ensures { λ r. ⌜ r ≡ fitness (formedRule forms) (now (stamp .entry)) (now («data» .entry)) ⌝ }
 {
@@ -202,6 +204,9 @@ fn fit_forms(forms: Forms, stamp: &[u8], data: &[u8]) -> Verdict
     }
     if largest < n {
         return Verdict::Refused(Refusal::WidthWrong);
+    }
+    if quick::surely_fits(forms, data) {
+        return Verdict::Accepted;
     }
     if furthest(forms, data) == n + 1 {
         return Verdict::Accepted;

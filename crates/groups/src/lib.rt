@@ -2,6 +2,7 @@
 mod fields;
 mod find;
 mod modes;
+mod quick;
 mod reading;
 mod stamps;
 mod table;

@@ -19,7 +19,7 @@ ghost use Rattle.groups.specs.Modes.{countedAtEnd};
 ghost use Rattle.groups.specs.Groups.{total, groupOf, fieldsOf, behindLabel, read as readOf};
 ghost use Rattle.groups.specs.Judging.{shown, stampSpan, stampStretch};
 ghost use Rattle.groups.specs.Stored.{ruleOf};
-ghost use Rattle.groups.specs.Inside.{checkFrom, ContentWalk, FrontSum, LabelWalk, Split};
+ghost use Rattle.groups.specs.Inside.{checkFrom, ContentWalk, FrontSum, LabelWalk, Split, StartsWith};
 
 // The sum of the codes.
 pub(crate) fn sum(text: &[u8]) -> u32
@@ -211,9 +211,10 @@ fn fields_of(mode: Mode, rule: Rule, label: &[u8], body: &[u8]) -> Judged
     }
 }
 
-// A label, all that stands behind its separator, and the sum of all but the last two of these characters.
-fn behind_label(mode: Mode, label: &[u8], rest: &[u8], front: u32) -> Judged
-    requires { ⌜ FrontSum mode (now label) (now rest) front ⌝ }
+// A content, its label, all that stands behind the separator of the label, and the sum of all but the last two of these
+// characters. The label is looked up in the content, so that its first eight bytes can be taken at once.
+fn behind_label(mode: Mode, content: &[u8], label: &[u8], rest: &[u8], front: u32) -> Judged
+    requires { ⌜ (FrontSum mode (now label) (now rest) front) × (StartsWith (now label) (now content)) ⌝ }
     ensures { λ r. ⌜ r ≡ shown (behindLabel mode (now (label .entry)) (now (rest .entry))) ⌝ }
 {
     let n = rest.len();
@@ -228,7 +229,7 @@ fn behind_label(mode: Mode, label: &[u8], rest: &[u8], front: u32) -> Judged
     if rest[n - 1] != check_by(mode, front) {
         return refuse(Refusal::CheckWrong);
     }
-    let found = find::find(mode, label);
+    let found = find::find(mode, content, label.len());
     match found {
         Found::Listed(rule) => fields_of(mode, rule, label, body),
         Found::Unlisted => refuse(Refusal::LabelUnknown),
@@ -251,5 +252,5 @@ pub(crate) fn read(mode: Mode, content: &[u8]) -> Judged
         return refuse(Refusal::Misshapen);
     }
     let next = at + 1;
-    behind_label(mode, &content[..at], &content[next..], walked.sum)
+    behind_label(mode, content, &content[..at], &content[next..], walked.sum)
 }

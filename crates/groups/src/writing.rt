@@ -159,7 +159,7 @@ pub(crate) fn write_in(
 ) -> Written
     ensures { λ r. ⌜ Wrote (into (length (now (buffer .entry))) (compose mode (groupOf (now (label .entry)) (now (stamp .entry)) (now («data» .entry))))) (now (buffer .entry)) r (now (buffer .exit)) ⌝ }
 {
-    let found = find::find(mode, label);
+    let found = find::find(mode, label, label.len());
     match found {
         Found::Listed(rule) => write_by(mode, rule, label, stamp, data, buffer),
         Found::Unlisted => stop(Refusal::LabelUnknown, buffer),

@@ -539,6 +539,66 @@ fn spaces_of_a_business_meters_data_are_counted_and_the_final_separator_is_not()
     assert_eq!(judge(Business, b"PTCOUR1 N"), Err(Refusal::Misshapen));
 }
 
+/// The labels of a mode.
+fn labels_of(mode: Mode) -> Vec<&'static [u8]> {
+    let by_rule =
+        |rows: &'static [&str]| rows.iter().flat_map(|row| row.split(' ').skip(1)).collect();
+    let labels: Vec<&str> = match mode {
+        Historic => by_rule(&HISTORIC),
+        Standard => by_rule(&STANDARD),
+        Business => BUSINESS
+            .iter()
+            .flat_map(|(names, _)| names.split(' '))
+            .collect(),
+    };
+    labels.into_iter().map(str::as_bytes).collect()
+}
+
+/// A label with one byte missing, with one byte more, and with one byte that is another: every byte, at every place.
+fn near_misses(label: &[u8]) -> Vec<Vec<u8>> {
+    let mut near = Vec::new();
+    for place in 0..=label.len() {
+        let (before, behind) = label.split_at(place);
+        let shorter = behind.get(1..);
+        near.extend(shorter.map(|rest| [before, rest].concat()));
+        for byte in 0..=255 {
+            near.push([before, &[byte], behind].concat());
+            near.extend(shorter.map(|rest| [before, &[byte], rest].concat()));
+        }
+    }
+    near
+}
+
+/// M-107, "the old one's row for every sequence of bytes": 11 exactly where a label is not in the list, in the writer and in
+/// the reader, of a content that is long and of one that is as short as it can be.
+#[test]
+fn only_the_very_bytes_of_a_label_find_it() {
+    let unknown = Some(Refusal::LabelUnknown);
+    for mode in [Historic, Standard, Business] {
+        let separator = if mode == Standard { b'\t' } else { b' ' };
+        let labels = labels_of(mode);
+        let mut texts: Vec<Vec<u8>> = labels.iter().flat_map(|label| near_misses(label)).collect();
+        texts.extend(
+            labels
+                .iter()
+                .flat_map(|a| labels.iter().map(|b| [*a, *b].concat())),
+        );
+        texts.extend((0..=128).map(|length| vec![b'S'; length]));
+        for text in texts {
+            let missing = !labels.contains(&&text[..]);
+            let written = write(mode, &text, b"", b"").err();
+            assert_eq!(written == unknown, missing, "{mode:?} {text:?}");
+            if text.is_empty() || text.contains(&separator) || 100 < text.len() {
+                continue;
+            }
+            for data in [&b""[..], b"123456789"] {
+                let judged = judge(mode, &content(mode, &text, b"", data)).err();
+                assert_eq!(judged == unknown, missing, "{mode:?} {text:?} {data:?}");
+            }
+        }
+    }
+}
+
 /// The labels of Tableau 10 byte for byte, but for an accent that seven bits do not have; and to each mode its own list.
 #[test]
 fn a_label_that_is_not_in_the_business_meters_list_is_11() {

@@ -1,54 +1,166 @@
--- The arrays hold the rest of the rows of the mode's list, nine by nine.
+-- The arrays hold the rows of the mode's list, nine by nine; the key is compared with the first of each.
 use Rattle.characters.specs.Answers.{pick}
-use Rattle.groups.proofs.Search.{nine-more}
+use Rattle.groups.proofs.Search.{decides, no-more}
 use Rattle.groups.specs.Formats.{formOf}
+use Rattle.groups.specs.Packed.{packed, unpacked}
 use Rattle.groups.specs.Stored.{formatsFrom, numbered, under}
 use Rattle.groups.specs.Table.{businessRows}
+use Rattle.groups.specs.declared.Mode.the-variants.{Business}
 use borrow.Author.Needs.{needs}
+use lib.Dec.{lit<, lit≤}
+use mathlib.Core.Path.{refl}
+use native.Mathlib.Nat.{not-suc-le-zero}
 use Rattle.groups.proofs.find.business.Statement.{statement}
 use Rattle.groups.proofs.find.business.Tie as tie
 
-business-half-requires : tie.Need-business-half-requires
-business-half-requires c κs = search needs
+element-copy-out-if1 : tie.Need-element-copy-out-if1
+element-copy-out-if1 c = search needs
 
-search-formed-requires : tie.Need-search-formed-requires
-search-formed-requires c κs = search needs
+element-copy-out-if2 : tie.Need-element-copy-out-if2
+element-copy-out-if2 c = search needs
 
-search-formed-requires-2 : tie.Need-search-formed-requires-2
-search-formed-requires-2 c κs = search needs
+element-copy-out-if3 : tie.Need-element-copy-out-if3
+element-copy-out-if3 c = search needs
 
-search-formed-requires-3 : tie.Need-search-formed-requires-3
-search-formed-requires-3 c κs = search needs
-
-search-formed-requires-4 : tie.Need-search-formed-requires-4
-search-formed-requires-4 c κs = search needs
-
-search-formed-requires-5 : tie.Need-search-formed-requires-5
-search-formed-requires-5 c κs = search needs
+nearest-requires : tie.Need-nearest-requires
+nearest-requires c κs = search needs
 
 returns : tie.Need-returns
-unfolding businessRows formOf formatsFrom numbered under pick
+unfolding businessRows formatsFrom numbered under packed unpacked formOf pick
 returns c =
-    let at-5 = c .before in
-    let at-4 = at-5 .before in
-    let at-3 = at-4 .before in
-    let at-2 = at-3 .before in
-    let at-1 = at-2 .before in
-    let label = at-1 .before .before .args .label .now in
-    let first-45 = nine-more label businessRows 36 (at-1 .business-half .ensures) (at-2 .search-formed .ensures) in
-    let first-54 = nine-more label businessRows 45 first-45 (at-3 .search-formed2 .ensures) in
-    let first-63 = nine-more label businessRows 54 first-54 (at-4 .search-formed3 .ensures) in
-    let first-72 = nine-more label businessRows 63 first-63 (at-5 .search-formed4 .ensures) in
-    nine-more label businessRows 72 first-72 (c .search-formed5 .ensures)
+    let start = c .before .before .before .before in
+    decides Business 0 9 _ (start .args .key) _ refl tt tt (lit< tt) (lit≤ tt) (λ p. absurd (not-suc-le-zero p))
+    (λ p. c .before .if3 .taken) (c .nearest .ensures)
+
+nearest-requires-2 : tie.Need-nearest-requires-2
+nearest-requires-2 c κs = search needs
+
+returns-2 : tie.Need-returns-2
+unfolding businessRows formatsFrom numbered under packed unpacked formOf pick
+returns-2 c =
+    let at-if2 = c .before .before in
+    let start = at-if2 .before .before in
+    decides Business 9 18 _ (start .args .key) _ refl tt tt (lit< tt) (lit≤ tt) (λ p. c .before .if3 .left)
+    (λ p. at-if2 .if2 .taken) (c .nearest2 .ensures)
+
+element-copy-out-if4 : tie.Need-element-copy-out-if4
+element-copy-out-if4 c = search needs
+
+nearest-requires-3 : tie.Need-nearest-requires-3
+nearest-requires-3 c κs = search needs
+
+returns-3 : tie.Need-returns-3
+unfolding businessRows formatsFrom numbered under packed unpacked formOf pick
+returns-3 c =
+    let at-if2 = c .before .before in
+    let start = at-if2 .before .before in
+    decides Business 18 27 _ (start .args .key) _ refl tt tt (lit< tt) (lit≤ tt) (λ p. at-if2 .if2 .left)
+    (λ p. c .before .if4 .taken) (c .nearest3 .ensures)
+
+nearest-requires-4 : tie.Need-nearest-requires-4
+nearest-requires-4 c κs = search needs
+
+returns-4 : tie.Need-returns-4
+unfolding businessRows formatsFrom numbered under packed unpacked formOf pick
+returns-4 c =
+    let at-if1 = c .before .before .before in
+    let start = at-if1 .before in
+    decides Business 27 36 _ (start .args .key) _ refl tt tt (lit< tt) (lit≤ tt) (λ p. c .before .if4 .left)
+    (λ p. at-if1 .if1 .taken) (c .nearest4 .ensures)
+
+element-copy-out-if5 : tie.Need-element-copy-out-if5
+element-copy-out-if5 c = search needs
+
+element-copy-out-if6 : tie.Need-element-copy-out-if6
+element-copy-out-if6 c = search needs
+
+nearest-requires-5 : tie.Need-nearest-requires-5
+nearest-requires-5 c κs = search needs
+
+returns-5 : tie.Need-returns-5
+unfolding businessRows formatsFrom numbered under packed unpacked formOf pick
+returns-5 c =
+    let at-if1 = c .before .before .before in
+    let start = at-if1 .before in
+    decides Business 36 45 _ (start .args .key) _ refl tt tt (lit< tt) (lit≤ tt) (λ p. at-if1 .if1 .left)
+    (λ p. c .before .if6 .taken) (c .nearest5 .ensures)
+
+nearest-requires-6 : tie.Need-nearest-requires-6
+nearest-requires-6 c κs = search needs
+
+returns-6 : tie.Need-returns-6
+unfolding businessRows formatsFrom numbered under packed unpacked formOf pick
+returns-6 c =
+    let at-if5 = c .before .before in
+    let start = at-if5 .before .before in
+    decides Business 45 54 _ (start .args .key) _ refl tt tt (lit< tt) (lit≤ tt) (λ p. c .before .if6 .left)
+    (λ p. at-if5 .if5 .taken) (c .nearest6 .ensures)
+
+element-copy-out-if7 : tie.Need-element-copy-out-if7
+element-copy-out-if7 c = search needs
+
+nearest-requires-7 : tie.Need-nearest-requires-7
+nearest-requires-7 c κs = search needs
+
+returns-7 : tie.Need-returns-7
+unfolding businessRows formatsFrom numbered under packed unpacked formOf pick
+returns-7 c =
+    let at-if5 = c .before .before in
+    let start = at-if5 .before .before in
+    decides Business 54 63 _ (start .args .key) _ refl tt tt (lit< tt) (lit≤ tt) (λ p. at-if5 .if5 .left)
+    (λ p. c .before .if7 .taken) (c .nearest7 .ensures)
+
+element-copy-out-if8 : tie.Need-element-copy-out-if8
+element-copy-out-if8 c = search needs
+
+nearest-requires-8 : tie.Need-nearest-requires-8
+nearest-requires-8 c κs = search needs
+
+returns-8 : tie.Need-returns-8
+unfolding businessRows formatsFrom numbered under packed unpacked formOf pick
+returns-8 c =
+    let at-if7 = c .before .before in
+    let start = at-if7 .before .before .before in
+    decides Business 63 72 _ (start .args .key) _ refl tt tt (lit< tt) (lit≤ tt) (λ p. at-if7 .if7 .left)
+    (λ p. c .before .if8 .taken) (c .nearest8 .ensures)
+
+nearest-requires-9 : tie.Need-nearest-requires-9
+nearest-requires-9 c κs = search needs
+
+returns-9 : tie.Need-returns-9
+unfolding businessRows formatsFrom numbered under packed unpacked formOf pick
+returns-9 c =
+    let start = c .before .before .before .before .before in
+    decides Business 72 75 _ (start .args .key) _ refl tt tt (lit< tt) (lit≤ tt) (λ p. c .before .if8 .left)
+    (λ p. absurd (no-more p)) (c .nearest9 .ensures)
 
 pub business-spec : {M : Type 1} → statement M
 business-spec =
     tie.close
     (tie.spec
-    business-half-requires
-    search-formed-requires
-    search-formed-requires-2
-    search-formed-requires-3
-    search-formed-requires-4
-    search-formed-requires-5
-    returns)
+    element-copy-out-if1
+    element-copy-out-if2
+    element-copy-out-if3
+    nearest-requires
+    returns
+    nearest-requires-2
+    returns-2
+    element-copy-out-if4
+    nearest-requires-3
+    returns-3
+    nearest-requires-4
+    returns-4
+    element-copy-out-if5
+    element-copy-out-if6
+    nearest-requires-5
+    returns-5
+    nearest-requires-6
+    returns-6
+    element-copy-out-if7
+    nearest-requires-7
+    returns-7
+    element-copy-out-if8
+    nearest-requires-8
+    returns-8
+    nearest-requires-9
+    returns-9)

@@ -1,40 +1,80 @@
--- The arrays hold the mode's rows, nine by nine.
-use Rattle.groups.proofs.Search.{nine-more}
+-- The arrays hold the rows of the mode's list, nine by nine; the key is compared with the first of each.
+use Rattle.characters.specs.Answers.{pick}
+use Rattle.groups.proofs.Search.{decides, no-more}
 use Rattle.groups.specs.Formats.{formOf}
+use Rattle.groups.specs.Packed.{packed, unpacked}
 use Rattle.groups.specs.Table.{historicRows}
+use Rattle.groups.specs.declared.Mode.the-variants.{Historic}
 use borrow.Author.Needs.{needs}
+use lib.Dec.{lit<, lit≤}
+use mathlib.Core.Path.{refl}
+use native.Mathlib.Nat.{not-suc-le-zero}
 use Rattle.groups.proofs.find.historic.Statement.{statement}
 use Rattle.groups.proofs.find.historic.Tie as tie
 
-search-requires : tie.Need-search-requires
-search-requires c κs = search needs
+element-copy-out-if1 : tie.Need-element-copy-out-if1
+element-copy-out-if1 c = search needs
 
-search-requires-2 : tie.Need-search-requires-2
-search-requires-2 c κs = search needs
+element-copy-out-if2 : tie.Need-element-copy-out-if2
+element-copy-out-if2 c = search needs
 
-search-requires-3 : tie.Need-search-requires-3
-search-requires-3 c κs = search needs
-
-search-requires-4 : tie.Need-search-requires-4
-search-requires-4 c κs = search needs
+nearest-requires : tie.Need-nearest-requires
+nearest-requires c κs = search needs
 
 returns : tie.Need-returns
-unfolding historicRows formOf
+unfolding historicRows packed unpacked formOf pick
 returns c =
-    let at-3 = c .before in
-    let at-2 = at-3 .before in
-    let at-1 = at-2 .before in
-    let label = at-1 .before .before .args .label .now in
-    let first-18 = nine-more label historicRows 9 (at-1 .search .ensures) (at-2 .search2 .ensures) in
-    let first-27 = nine-more label historicRows 18 first-18 (at-3 .search3 .ensures) in
-    nine-more label historicRows 27 first-27 (c .search4 .ensures)
+    let start = c .before .before .before in
+    decides Historic 0 9 _ (start .args .key) _ refl tt tt (lit< tt) (lit≤ tt) (λ p. absurd (not-suc-le-zero p))
+    (λ p. c .before .if2 .taken) (c .nearest .ensures)
+
+nearest-requires-2 : tie.Need-nearest-requires-2
+nearest-requires-2 c κs = search needs
+
+returns-2 : tie.Need-returns-2
+unfolding historicRows packed unpacked formOf pick
+returns-2 c =
+    let at-if1 = c .before .before in
+    let start = at-if1 .before in
+    decides Historic 9 18 _ (start .args .key) _ refl tt tt (lit< tt) (lit≤ tt) (λ p. c .before .if2 .left)
+    (λ p. at-if1 .if1 .taken) (c .nearest2 .ensures)
+
+element-copy-out-if3 : tie.Need-element-copy-out-if3
+element-copy-out-if3 c = search needs
+
+nearest-requires-3 : tie.Need-nearest-requires-3
+nearest-requires-3 c κs = search needs
+
+returns-3 : tie.Need-returns-3
+unfolding historicRows packed unpacked formOf pick
+returns-3 c =
+    let at-if1 = c .before .before in
+    let start = at-if1 .before in
+    decides Historic 18 27 _ (start .args .key) _ refl tt tt (lit< tt) (lit≤ tt) (λ p. at-if1 .if1 .left)
+    (λ p. c .before .if3 .taken) (c .nearest3 .ensures)
+
+nearest-requires-4 : tie.Need-nearest-requires-4
+nearest-requires-4 c κs = search needs
+
+returns-4 : tie.Need-returns-4
+unfolding historicRows packed unpacked formOf pick
+returns-4 c =
+    let start = c .before .before .before in
+    decides Historic 27 34 _ (start .args .key) _ refl tt tt (lit< tt) (lit≤ tt) (λ p. c .before .if3 .left)
+    (λ p. absurd (no-more p)) (c .nearest4 .ensures)
 
 pub historic-spec : {M : Type 1} → statement M
 historic-spec =
     tie.close
     (tie.spec
-    search-requires
-    search-requires-2
-    search-requires-3
-    search-requires-4
-    returns)
+    element-copy-out-if1
+    element-copy-out-if2
+    nearest-requires
+    returns
+    nearest-requires-2
+    returns-2
+    element-copy-out-if3
+    nearest-requires-3
+    returns-3
+    nearest-requires-4
+    returns-4)

@@ -1,7 +1,10 @@
 -- Each answer is the definition at the tests that led to it.
 use Rattle.groups.proofs.Views.{found-none, found-some}
 use Rattle.groups.proofs.Walks.{check-front}
+use Prim.Native.Nat.{ℕ}
 use Rattle.groups.specs.Judging.{shown}
+use Rattle.groups.specs.Table.{lookup, rows}
+use mathlib.Core.List.{List}
 use Rattle.groups.specs.Laws.Places.{behind-checked, behind-listed, behind-open, behind-short, behind-unlisted}
 use borrow.Author.Needs.{needs}
 use lib.ListN.{length-take}
@@ -15,7 +18,7 @@ refuse-requires c κs = search needs
 
 returns : tie.Need-returns
 returns c =
-    let start = c .before .before .before .before in
+    let start = c .before .before .before .before .before in
     let g = start .args in
     c .refuse .ensures ∙ ap shown (sym (behind-short (g .mode) (g .label .now) (g .rest .now)
     (c .before .if1 .taken)))
@@ -32,7 +35,7 @@ refuse-requires-2 c κs = search needs
 returns-2 : tie.Need-returns-2
 returns-2 c =
     let at-if1 = c .before .before .before .before in
-    let start = at-if1 .before .before .before in
+    let start = at-if1 .before .before .before .before in
     let g = start .args in
     c .refuse2 .ensures ∙ ap shown (sym (behind-open (g .mode) (g .label .now) (g .rest .now) (at-if1 .if1 .left) (λ
     z. c .before .if2 .taken (z ∙ sym (c .before .before .separator-of .ensures)))))
@@ -48,8 +51,8 @@ shared-slice-read-if3 c = search needs
 
 check-by-requires : tie.Need-check-by-requires
 check-by-requires c κs =
-    let start = c .before .before .before .before .before .before .before .before in
-    omega (arith, start .pre .small)
+    let start = c .before .before .before .before .before .before .before .before .before in
+    omega (arith, start .pre .0 .small)
 
 refuse-requires-3 : tie.Need-refuse-requires-3
 refuse-requires-3 c κs = search needs
@@ -59,14 +62,16 @@ returns-3 c =
     let at-if2 = c .before .before .before .before .before in
     let at-separator-of = at-if2 .before in
     let at-if1 = at-separator-of .before .before in
-    let start = at-if1 .before .before .before in
+    let start = at-if1 .before .before .before .before in
     let g = start .args in
     c .refuse3 .ensures ∙ ap shown (sym (behind-checked (g .mode) (g .label .now) (g .rest .now) (at-if1 .if1 .left)
     (at-if2 .if2 .left ∙ at-separator-of .separator-of .ensures) (λ z. c .before .if3 .taken (z ∙ sym
-    (c .before .before .check-by .ensures ∙ check-front (g .mode) (g .label .now) (g .rest .now) (g .front) (start .pre) (at-if1 .if1 .left))))))
+    (c .before .before .check-by .ensures ∙ check-front (g .mode) (g .label .now) (g .rest .now) (g .front) (start .pre .0) (at-if1 .if1 .left))))))
 
 find-requires : tie.Need-find-requires
-find-requires c κs = search needs
+find-requires c κs =
+    let start = c .before .before .before .before .before .before .before .before .before .before .before in
+    start .pre .1 .inside
 
 enum-known-found : tie.Need-enum-known-found
 enum-known-found c = search needs
@@ -88,11 +93,11 @@ returns-4 c =
     let at-if2 = at-check-by .before .before .before in
     let at-separator-of = at-if2 .before in
     let at-if1 = at-separator-of .before .before in
-    let start = at-if1 .before .before .before in
+    let start = at-if1 .before .before .before .before in
     let g = start .args in
     c .fields-of .ensures ∙ ap shown (sym (behind-listed (g .mode) (g .label .now) (g .rest .now) _
     (at-if1 .if1 .left) (at-if2 .if2 .left ∙ at-separator-of .separator-of .ensures) (at-if3 .if3 .left ∙
-    at-check-by .check-by .ensures ∙ check-front (g .mode) (g .label .now) (g .rest .now) (g .front) (start .pre) (at-if1 .if1 .left)) (found-some _ (at-find .find .ensures) (c .before .before .found .given .1))))
+    at-check-by .check-by .ensures ∙ check-front (g .mode) (g .label .now) (g .rest .now) (g .front) (start .pre .0) (at-if1 .if1 .left)) (found-some _ (at-find .find .ensures ∙ ap (λ (l : List ℕ). lookup l (rows (g .mode))) (start .pre .1 .begins)) (c .before .before .found .given .1))))
 
 returns-5 : tie.Need-returns-5
 returns-5 c =
@@ -102,11 +107,11 @@ returns-5 c =
     let at-if2 = at-check-by .before .before .before in
     let at-separator-of = at-if2 .before in
     let at-if1 = at-separator-of .before .before in
-    let start = at-if1 .before .before .before in
+    let start = at-if1 .before .before .before .before in
     let g = start .args in
     c .refuse4 .ensures ∙ ap shown (sym (behind-unlisted (g .mode) (g .label .now) (g .rest .now) (at-if1 .if1 .left)
-    (at-if2 .if2 .left ∙ at-separator-of .separator-of .ensures) (at-if3 .if3 .left ∙ at-check-by .check-by .ensures ∙ check-front (g .mode) (g .label .now) (g .rest .now) (g .front) (start .pre) (at-if1 .if1 .left))
-    (found-none (at-find .find .ensures) (c .before .enum-told .given .1))))
+    (at-if2 .if2 .left ∙ at-separator-of .separator-of .ensures) (at-if3 .if3 .left ∙ at-check-by .check-by .ensures ∙ check-front (g .mode) (g .label .now) (g .rest .now) (g .front) (start .pre .0) (at-if1 .if1 .left))
+    (found-none (at-find .find .ensures ∙ ap (λ (l : List ℕ). lookup l (rows (g .mode))) (start .pre .1 .begins)) (c .before .enum-told .given .1))))
 
 pub behind-label-spec : {M : Type 1} → statement M
 behind-label-spec =

@@ -1,6 +1,6 @@
 -- Each answer is the definition at the tests that led to it.
 use Prim.Native.Nat.{_+_, ℕ}
-use Rattle.groups.proofs.Walks.{front-summed, to-end}
+use Rattle.groups.proofs.Walks.{front-summed, starts-with, to-end}
 use Rattle.groups.specs.Conditions.{firstAt}
 use Rattle.groups.specs.Inside.{ContentWalk}
 use Rattle.groups.specs.Judging.{shown}
@@ -74,10 +74,12 @@ behind-label-requires c κs =
     let at-walk = c .before .before .before .before in
     let at-separator-of = at-walk .before in
     let start = at-separator-of .before .before .before in
-    let g = start .args in
-    rw (to-end (at-walk .walk .result .first + 1) (g .content .now)) (front-summed (g .mode) (g .content .now) _ _
-    (subst (λ (s : ℕ). ContentWalk s (g .content .now) (at-walk .walk .result .first) (at-walk .walk .result .sum))
-    (at-separator-of .separator-of .ensures) (at-walk .walk .ensures)))
+    let g = start .args in (
+      rw (to-end (at-walk .walk .result .first + 1) (g .content .now)) (front-summed (g .mode) (g .content .now) _ _
+          (subst (λ (s : ℕ). ContentWalk s (g .content .now) (at-walk .walk .result .first) (at-walk .walk .result .sum))
+          (at-separator-of .separator-of .ensures) (at-walk .walk .ensures))),
+      starts-with (at-walk .walk .result .first) (g .content .now),
+    )
 
 returns-4 : tie.Need-returns-4
 returns-4 c =

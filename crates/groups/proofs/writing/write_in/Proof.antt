@@ -4,6 +4,12 @@ use Rattle.groups.proofs.Views.{found-none, found-some}
 use Rattle.groups.specs.Groups.{groupOf}
 use borrow.Author.Needs.{needs}
 use lib.ListN.{length}
+use lib.Seq.{take-all}
+use mathlib.Core.List.{List}
+use mathlib.Core.Path.{_∙_, ap}
+use native.Mathlib.Omega.{arith}
+use Prim.Native.Nat.{ℕ}
+use Rattle.groups.specs.Table.{lookup, rows}
 use Rattle.groups.proofs.writing.write_in.Statement.{statement}
 use Rattle.groups.proofs.writing.write_in.Tie as tie
 
@@ -18,7 +24,7 @@ write-by-requires c κs =
     let at-find = c .before .before .before .before in
     let start = at-find .before .before .before .before .before in
     let g = start .args in
-    listed-short (g .mode) (g .label .now) _ (found-some _ (at-find .find .ensures) (c .before .before .found .given .1))
+    listed-short (g .mode) (g .label .now) _ (found-some _ (at-find .find .ensures ∙ ap (λ (l : List ℕ). lookup l (rows (g .mode))) (take-all (length (g .label .now)) (g .label .now) (omega arith))) (c .before .before .found .given .1))
 
 enum-told : tie.Need-enum-told
 enum-told c = search needs
@@ -36,7 +42,7 @@ returns c =
     let start = at-find .before .before .before .before .before in
     let g = start .args in
     wrote-as (g .buffer .now) _ _ (write-listed (g .mode) (groupOf (g .label .now) (g .stamp .now) (g .«data» .now))
-    (length (g .buffer .now)) _ (found-some _ (at-find .find .ensures) (at-found .found .given .1)))
+    (length (g .buffer .now)) _ (found-some _ (at-find .find .ensures ∙ ap (λ (l : List ℕ). lookup l (rows (g .mode))) (take-all (length (g .label .now)) (g .label .now) (omega arith))) (at-found .found .given .1)))
     (c .before .before .write-by .ensures)
 
 same-length-2 : tie.Need-same-length-2
@@ -49,7 +55,7 @@ returns-2 c =
     let start = at-find .before .before .before .before .before in
     let g = start .args in
     wrote-as (g .buffer .now) _ _ (write-unlisted (g .mode) (groupOf (g .label .now) (g .stamp .now) (g .«data» .now))
-    (length (g .buffer .now)) (found-none (at-find .find .ensures) (at-enum-told .enum-told .given .1)))
+    (length (g .buffer .now)) (found-none (at-find .find .ensures ∙ ap (λ (l : List ℕ). lookup l (rows (g .mode))) (take-all (length (g .label .now)) (g .label .now) (omega arith))) (at-enum-told .enum-told .given .1)))
     (c .before .before .stop .ensures)
 
 pub write-in-spec : {M : Type 1} → statement M
