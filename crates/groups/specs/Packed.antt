@@ -1,6 +1,6 @@
--- The rows of the table as numbers (`src/table.rt` says what stands where), and looking a label up by them. Only contracts of
--- private functions cite this; that the rows are those of `Table.antt` is computed in the proofs of `historic`, `standard` and
--- `business`.
+-- The rows of the table as numbers (`src/table.rt` says what stands where), and looking a label up by them. Contracts of private
+-- functions cite this, and of the statements `keys-as-bytes` alone; that the rows are those of `Table.antt` is computed in the
+-- proofs of `historic`, `standard` and `business`.
 use mathlib.Core.Path.{_≡_}
 use mathlib.Core.Bool.{Bool, _&&_}
 use mathlib.Core.Option.{Option, none, some}
