@@ -26,15 +26,15 @@
  *  - No pointer is null, not even one to no bytes at all: hand in any address of your own with a length of 0.
  *  - A pointer is aligned for its type, and there is as much behind it as its type and the length beside it say, which
  *    counts bytes and is below 2 to the 63.
- *  - What may be written (a station, sheet, counts, buffer, stretches, written) overlaps nothing else that is handed in to
- *    the same call. Label, stamp and data may overlap each other.
+ *  - What may be written (a station, sheet, counts, buffer, stretches, place, written) overlaps nothing else that is handed
+ *    in to the same call. Label, stamp and data may overlap each other.
  *  - Nobody else touches what is lent while the call runs. The functions keep no state of their own and no pointer:
  *    two stations can be used at the same time.
  *  - A number of a line or a mode has 32 bits. C cuts a longer one before the call, and 4,294,967,296 arrives as 0: compare
  *    it before it is cut.
  *
- * A refused call changes no byte of a station, a sheet or a buffer. Counts, stretches and *written are places for results,
- * as the returned number is: every call sets them, a refused one to zeros.
+ * A refused call changes no byte of a station, a sheet or a buffer. Counts, stretches, *place and *written are for results,
+ * as the returned number is: every call sets them, a refused one to zeros, but *place to where a stamp or data went wrong.
  */
 #ifndef ESPANDIM_H
 #define ESPANDIM_H
@@ -178,9 +178,10 @@ static inline uint32_t espandim_deliver(struct espandim_station *station, uint32
  * the sheet:
  *   bytes 0 to 7    how many bytes the turn of each line took
  *   bytes 8 to 23   for each line where its entry starts, two bytes, low byte first; 0 where it has no answer
- *   from byte 24    the entries: the answer's number (1 to 14), the lengths of label, stamp and data, and these three;
- *                   all but 1 have three zeros and no text. In memory that no call made a line's mode may be none: then
- *                   its groups have the number 19
+ *   from byte 24    the entries. For a group that is accepted: the number 1, the lengths of label, stamp and data, and
+ *                   these three. For all else four bytes and no text: the number (2 to 14), two zeros, and a third one or,
+ *                   for 12 and 14, where in the group's content it went wrong (espandim_place). In memory that no call made
+ *                   a line's mode may be none: then its groups have the number 19
  * The bytes behind the last entry stay as they were. The counts are set to how many bytes each turn took.
  *   0   done
  *   18  the sheet has under 1,080 bytes: no byte was taken and nothing changed, the sheet included; the counts are zeros
@@ -208,9 +209,9 @@ static inline int espandim_idle(const uint8_t counts[ESPANDIM_LINES]) {
     return 1;
 }
 
-/* The entry of a line on a sheet that a round has written, or that is zeros yet: entry[0] is the number, entry[1], entry[2]
- * and entry[3] are the lengths of label, stamp and data, which follow from entry + 4 on. A null pointer where the line has
- * no answer, or is 8 or more.
+/* The entry of a line on a sheet that a round has written, or that is zeros yet: entry[0] is the number. Where that is 1,
+ * entry[1], entry[2] and entry[3] are the lengths of label, stamp and data, which follow from entry + 4 on. Every other entry
+ * ends with entry[3], its place (espandim_place). A null pointer where the line has no answer, or is 8 or more.
  *
  * A stamp is 13 characters, as they came: its season, then YYMMDDhhmmss. The season is H in winter and E in summer; h and e
  * are the same from a clock in degraded mode, which lost its time and was not set again yet, so that date and hour may be
@@ -221,19 +222,32 @@ static inline const uint8_t *espandim_entry(const uint8_t *sheet, uint32_t line)
     return offset == 0 ? 0 : sheet + offset;
 }
 
+/* The place that an entry tells. For 12 and 14: where in the group's content, counted from 0, the stamp or the data went
+ * wrong, which is what espandim_judge has for *place. For all other numbers 0, which it never is for these two. (The array
+ * `places` of a station has other things in it.) */
+static inline size_t espandim_place(const uint8_t *entry) {
+    return entry[0] == ESPANDIM_ACCEPTED ? 0 : entry[3];
+}
+
 /* Judges the content of one group, what stands between LF and CR, in characters with no parity bit. The stretches are
- * set to start and length of label, stamp and data, in the content itself; a label without a stamp has an empty one.
+ * set to start and length of label, stamp and data, in the content itself; a label without a stamp has an empty one. *place
+ * is set, for 12 and 14, to the index of the character where it went wrong (M-104 of document 02): content[*place].
  *   1   accepted
  *   19  mode is not 0 to 2
  *   8   over 128 characters
  *   9   under 4 characters, or the separators not where they must be
  *   10  check character wrong
  *   11  label not in the mode's list
- *   12  stamp not right (a small season letter, h or e, is right where H and E are); never in business mode
+ *   12  stamp not right (a small season letter, h or e, is right where H and E are); never in business mode. *place is the
+ *       first character after the label's separator, whatever is wrong with the stamp: the final separator where nothing
+ *       stands between them
  *   13  data not of the label's width; in business mode, shorter than the label's smallest or longer than its largest
- *   14  a character of the data not of the label's kind; in business mode, any other data that do not fit the label's fields
- * The first that holds is given; all but 1 leave six zeros in the stretches. */
-uint32_t espandim_judge(uint32_t mode, const uint8_t *content, size_t length, size_t stretches[6]);
+ *   14  a character of the data not of the label's kind; in business mode, any other data that do not fit the label's fields.
+ *       *place is the first wrong data character: in business mode the first that no fitting data of that length have there
+ *       after the same beginning, and the first of all where no fitting data have that length
+ * The first that holds is given; all but 1 leave six zeros in the stretches, and all but 12 and 14 leave 0 in *place. For
+ * these two it is above 0, and below the length and so below 128. */
+uint32_t espandim_judge(uint32_t mode, const uint8_t *content, size_t length, size_t stretches[6], size_t *place);
 
 /* Writes LF, the content of the group with these fields, and CR, as sound wire bytes, at the start of the buffer, and
  * sets *written to how many bytes these are. The rest of the buffer stays as it was.

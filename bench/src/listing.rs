@@ -35,5 +35,8 @@ fn write_line(text: &mut Vec<u8>, answer: &Answer) {
             text.extend_from_slice(field);
         }
     }
+    if answer.place() > 0 {
+        text.extend(format!(" {}", answer.place()).into_bytes());
+    }
     text.push(b'\n');
 }

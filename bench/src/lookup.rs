@@ -92,6 +92,8 @@ pub struct Group {
     content: Vec<u8>,
     /// The number that both readers must refuse it by.
     pub refusal: u32,
+    /// The place that they must tell with it.
+    place: usize,
 }
 
 impl Group {
@@ -102,10 +104,15 @@ impl Group {
             *content.last_mut().expect("a content is not empty") ^= 1;
             refusal = 10;
         }
+        let place = match refusal {
+            12 => label.len() + 1,
+            _ => 0,
+        };
         Group {
             label,
             content,
             refusal,
+            place,
         }
     }
 }
@@ -119,24 +126,29 @@ pub fn groups(mode: Mode, which: Which, check: Check) -> Vec<Group> {
 }
 
 /// Judges the groups so many times, and makes sure of every answer: no other group is to be measured unnoticed.
-pub fn run(judge: impl Fn(Mode, &[u8]) -> u32, mode: Mode, groups: &[Group], times: usize) {
+pub fn run(
+    judge: impl Fn(Mode, &[u8]) -> (u32, usize),
+    mode: Mode,
+    groups: &[Group],
+    times: usize,
+) {
     for _ in 0..times {
         for group in groups {
-            let number = judge(black_box(mode), black_box(&group.content));
-            assert_eq!(number, group.refusal, "{}", group.label);
+            let told = judge(black_box(mode), black_box(&group.content));
+            assert_eq!(told, (group.refusal, group.place), "{}", group.label);
         }
     }
 }
 
-pub fn by_ours(mode: Mode, content: &[u8]) -> u32 {
+pub fn by_ours(mode: Mode, content: &[u8]) -> (u32, usize) {
     ours::judge(mode.number(), content)
 }
 
 /// It stays out of the loop, as ours does, or the compiler could do a part of the work once for all times.
 #[inline(never)]
-pub fn by_plain(mode: Mode, content: &[u8]) -> u32 {
+pub fn by_plain(mode: Mode, content: &[u8]) -> (u32, usize) {
     match plain::group::judge(mode, content) {
-        Ok(_) => 1,
-        Err(notice) => notice as u32,
+        Ok(_) => (1, 0),
+        Err(fault) => (fault.notice as u32, usize::from(fault.place)),
     }
 }

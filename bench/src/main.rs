@@ -7,6 +7,7 @@ mod listing;
 mod lookup;
 mod ours;
 mod picture;
+mod places;
 mod plain;
 mod stack;
 mod stations;
@@ -28,6 +29,8 @@ const USAGE: &str = "usage: bench make KIND BYTES                       writes a
                                                    test behind the look-up, or a wrong one, up to that before it; MODE:
                                                    historic, standard or business; WHICH: first, middle, last, each or
                                                    missing
+       bench places                                makes sure that both readers tell the same number and place of groups
+                                                   with one wrong character, and prints how many groups these were
        bench stack                                 ours: the bytes of stack that each call takes
        bench time TIMES FILE COMMAND..             nanoseconds of the quickest run with the file as input
        bench picture                               draws the figures on standard input (SVG)";
@@ -121,6 +124,7 @@ fn run(words: &[String]) -> io::Result<bool> {
                 println!("{} {}", group.label, group.refusal);
             }
         }
+        ["places"] => println!("{}", places::compared()),
         ["stack"] => {
             for (name, bytes) in stack::table() {
                 println!("{name} {bytes}");

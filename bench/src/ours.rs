@@ -41,6 +41,7 @@ extern "C" {
         content: *const u8,
         length: usize,
         stretches: &mut [usize; 6],
+        place: &mut usize,
     ) -> u32;
     pub fn espandim_write(
         mode: u32,
@@ -56,11 +57,13 @@ extern "C" {
     ) -> u32;
 }
 
-/// The number for the content of one group.
-pub fn judge(mode: u32, content: &[u8]) -> u32 {
-    let mut stretches = [0; 6];
-    // SAFETY: every mode has its answer; pointer and length are those of one slice, which the six numbers can't overlap.
-    unsafe { espandim_judge(mode, content.as_ptr(), content.len(), &mut stretches) }
+/// The number for the content of one group, and the place where it went wrong.
+pub fn judge(mode: u32, content: &[u8]) -> (u32, usize) {
+    let (mut stretches, mut place) = ([0; 6], 0);
+    let (pointer, length) = (content.as_ptr(), content.len());
+    // SAFETY: every mode has its answer; pointer and length are those of one slice, which what is written can't overlap.
+    let number = unsafe { espandim_judge(mode, pointer, length, &mut stretches, &mut place) };
+    (number, place)
 }
 
 /// `struct espandim_station`: four arrays, with a row for each line. Zeros are the station with all lines closed, and

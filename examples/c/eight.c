@@ -3,8 +3,9 @@
  * usage: eight FILE.. (the first is line 0, the second line 1, and so on)
  *
  * A capture is H (historic), S (standard) or P (business), then wire bytes. Each answer is a line of output: the number
- * of the line, the number of the answer and, where that is 1, label, stamp or `-`, and data, each after a space. A capture
- * that is empty, or begins otherwise, has the answer 20. Exit status 0; 1 where a file can't be read; 2 for bad usage.
+ * of the line, the number of the answer and, where that is 1, label, stamp or `-`, and data, each after a space; where it is
+ * 12 or 14, the place in the group's content where it went wrong. A capture that is empty, or begins otherwise, has the
+ * answer 20. Exit status 0; 1 where a file can't be read; 2 for bad usage.
  *
  * It needs no header but espandim.h: what it uses of the C library is declared here, for a compiler that has none. */
 #include "espandim.h"
@@ -47,24 +48,32 @@ static void show_number(uint32_t number) {
     show(digits + at, sizeof digits - at);
 }
 
-/* An entry of a sheet: number, three lengths, and the three fields. An empty stamp is shown as `-`, or else the data
+/* The three fields of an accepted group: their lengths stand before them. An empty stamp is shown as `-`, or else the data
  * could be taken for it. */
+static void show_fields(const uint8_t *entry) {
+    const uint8_t *label = entry + 4, *stamp = label + entry[1], *data = stamp + entry[2];
+    show(" ", 1);
+    show(label, entry[1]);
+    show(" ", 1);
+    if (entry[2] == 0) {
+        show("-", 1);
+    } else {
+        show(stamp, entry[2]);
+    }
+    show(" ", 1);
+    show(data, entry[3]);
+}
+
+/* An entry of a sheet: its number, and then the fields of an accepted group, or the place where a refused one went wrong. */
 static void show_entry(uint32_t line, const uint8_t *entry) {
     show_number(line);
     show(" ", 1);
     show_number(entry[0]);
     if (entry[0] == ESPANDIM_ACCEPTED) {
-        const uint8_t *label = entry + 4, *stamp = label + entry[1], *data = stamp + entry[2];
+        show_fields(entry);
+    } else if (espandim_place(entry) != 0) { /* it is told for 12 and 14 */
         show(" ", 1);
-        show(label, entry[1]);
-        show(" ", 1);
-        if (entry[2] == 0) {
-            show("-", 1);
-        } else {
-            show(stamp, entry[2]);
-        }
-        show(" ", 1);
-        show(data, entry[3]);
+        show_number((uint32_t)espandim_place(entry));
     }
     show("\n", 1);
 }

@@ -73,6 +73,9 @@ void answered(uint32_t line, const uint8_t *entry) {
         say(entry[2] > 0 ? stamp : "-", entry[2] > 0 ? entry[2] : 1);
         say(" ", 1);
         say(data, entry[3]);
+    } else if (espandim_place(entry) != 0) { /* it is told for 12 and 14 */
+        say(" ", 1);
+        say_number((uint32_t)espandim_place(entry));
     }
     say("\n", 1);
 }
@@ -199,6 +202,76 @@ static void holds(int what, const char *text) {
     }
 }
 
+/* A content of each number that a line answers for a whole group, 7 apart, and its place (M-104 of document 02). */
+static const struct judged {
+    uint32_t mode;
+    const char *content;
+    uint32_t number;
+    size_t place;
+} judged[] = {
+    {ESPANDIM_STANDARD, "URMS1\t230\t?", ESPANDIM_ACCEPTED, 0},
+    {ESPANDIM_STANDARD, "URMS1 230\t?", ESPANDIM_MISSHAPEN, 0},
+    {ESPANDIM_STANDARD, "URMS1\t230\t6", ESPANDIM_CHECK_WRONG, 0},
+    {ESPANDIM_BUSINESS, "PAPP 00750 -", ESPANDIM_LABEL_UNKNOWN, 0},
+    {ESPANDIM_STANDARD, "SMAXSN\t01200\t?", ESPANDIM_STAMP_WRONG, 7},
+    {ESPANDIM_STANDARD, "DATE\tH090229000000\t\t7", ESPANDIM_STAMP_WRONG, 5},
+    {ESPANDIM_BUSINESS, "PA1MN 123456kW T", ESPANDIM_WIDTH_WRONG, 0},
+    {ESPANDIM_STANDARD, "STGE\t003a0001\tZ", ESPANDIM_KIND_WRONG, 8},
+    {ESPANDIM_STANDARD, "SMAXSN\tH081225223518\t012o0\t6", ESPANDIM_KIND_WRONG, 24},
+    {ESPANDIM_HISTORIC, "PAPP 0075a ^", ESPANDIM_KIND_WRONG, 9},
+    {ESPANDIM_BUSINESS, "PA1_s 123456kW K", ESPANDIM_KIND_WRONG, 11},
+    {ESPANDIM_BUSINESS, "TARIFDYN NACTIF V", ESPANDIM_KIND_WRONG, 9},
+};
+
+/* A character as a sound wire byte: the top bit makes the count of ones even. */
+static uint8_t sound(uint8_t character) {
+    uint32_t bit, ones = 0;
+    for (bit = 0; bit < 7; bit++) {
+        ones += character >> bit & 1u;
+    }
+    return (uint8_t)(character | (ones % 2) << 7);
+}
+
+/* What line 4 of a station of its own answers to the group with this content: its entry on the sheet. */
+static const uint8_t *entry_of(const struct judged *group, uint8_t *sheet) {
+    static const uint8_t stx = 0x82, lf = 0x0A, cr = 0x8D;
+    uint8_t counts[ESPANDIM_LINES];
+    size_t i;
+    again();
+    espandim_open(&station, 4, group->mode);
+    espandim_deliver(&station, 4, &stx, 1);
+    espandim_deliver(&station, 4, &lf, 1);
+    for (i = 0; group->content[i] != 0; i++) {
+        uint8_t byte = sound((uint8_t)group->content[i]);
+        espandim_deliver(&station, 4, &byte, 1);
+    }
+    espandim_deliver(&station, 4, &cr, 1);
+    espandim_round(&station, sheet, ESPANDIM_SMALLEST_SHEET, counts);
+    return espandim_entry(sheet, 4);
+}
+
+/* The place that judging and an entry tell. */
+static void places_told(void) {
+    static uint8_t sheet[ESPANDIM_SMALLEST_SHEET];
+    static const uint8_t accepted[] = {ESPANDIM_ACCEPTED, 5, 0, 3}, refused[] = {ESPANDIM_KIND_WRONG, 0, 0, 125};
+    size_t i;
+    for (i = 0; i < sizeof judged / sizeof judged[0]; i++) {
+        const struct judged *group = &judged[i];
+        const uint8_t *entry = entry_of(group, sheet);
+        size_t stretches[6], place = 77, count = 0;
+        while (group->content[count] != 0) {
+            count++;
+        }
+        holds(espandim_judge(group->mode, (const uint8_t *)group->content, count, stretches, &place) == group->number,
+              "the number of a group");
+        holds(place == group->place, "the place of a group, also where it is 0");
+        holds(entry && entry[0] == group->number && espandim_place(entry) == group->place, "the place of an entry");
+        holds(entry && (entry[0] == 1 || (entry[1] == 0 && entry[2] == 0)), "the second and third byte of an entry");
+    }
+    holds(espandim_place(accepted) == 0, "the length of the data is no place");
+    holds(espandim_place(refused) == 125, "the fourth byte is the place");
+}
+
 /* What espandim.h says, beside the calls' own contracts. */
 static void helpers(void) {
     static uint8_t sheet[ESPANDIM_SMALLEST_SHEET], full[65536], counts[ESPANDIM_LINES];
@@ -316,6 +389,7 @@ int main(int count, char **arguments) {
         words();
     } else if (is(what, "helpers") && files == 0) {
         helpers();
+        places_told();
         length = wrong ? length : 0; /* what was answered on the way says nothing */
     } else {
         return 2;

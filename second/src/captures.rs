@@ -95,7 +95,8 @@ impl Generator {
                 0..=11 => self.own_frame(mode),
                 // The business meter's data have the most ways of being wrong.
                 12..=35 if mode == Mode::Business => self.own_frame(mode),
-                12..=71 => self.frame(mode),
+                12..=65 => self.frame(mode),
+                66..=71 => self.wrong_frame(mode),
                 72..=79 => self.noise(),
                 80..=87 => self.soup(mode),
                 _ => self.frame_with_sized_group(mode),
@@ -150,6 +151,16 @@ impl Generator {
                 self.disturb(&mut wire);
             }
         }
+        wire
+    }
+
+    /// A frame of groups that go wrong in their data or stamps.
+    pub fn wrong_frame(&mut self, mode: Mode) -> Vec<u8> {
+        let mut wire = vec![to_wire(START_OF_TEXT)];
+        for _ in 0..self.dice.between(1, 3) {
+            wire.extend(group_on_wire(&self.wrong_somewhere_draft(mode).content()));
+        }
+        wire.push(to_wire(END_OF_TEXT));
         wire
     }
 

@@ -486,13 +486,16 @@ impl Generator {
         };
         self.note("spoilt: kind");
         let length = draft.data.len();
-        let anywhere = self.dice.below(length);
-        let place = *self.dice.pick(&[0, length - 1, anywhere]);
-        draft.data[place] = match kind {
-            Kind::Decimal => *self.dice.pick(b"/:AF -.\t\x1F\x7F\x00"),
-            Kind::Hexadecimal => *self.dice.pick(b"/:@Gafg` \t\x00\x7F"),
-            Kind::Text => *self.dice.pick(b"\x1F\x7F\x00\x01\t\x0B\x1B"),
-        };
+        // Now and then several are wrong, and only the first of them counts.
+        for _ in 0..*self.dice.pick(&[1, 1, 2, 3]) {
+            let anywhere = self.dice.below(length);
+            let place = *self.dice.pick(&[0, length - 1, anywhere, anywhere]);
+            draft.data[place] = match kind {
+                Kind::Decimal => *self.dice.pick(b"/:AF -.\t\x1F\x7F\x00"),
+                Kind::Hexadecimal => *self.dice.pick(b"/:@Gafg` \t\x00\x7F"),
+                Kind::Text => *self.dice.pick(b"\x1F\x7F\x00\x01\t\x0B\x1B"),
+            };
+        }
     }
 
     fn spoil_check(&mut self, draft: &mut Draft) {

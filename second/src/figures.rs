@@ -24,6 +24,7 @@ use std::collections::BTreeSet;
 
 mod business;
 mod labels;
+mod places;
 
 const HISTORIC: u8 = 0;
 const STANDARD: u8 = 1;
@@ -650,14 +651,14 @@ fn read_sentence_by_sentence(mode: Mode, wire: &[u8]) -> Vec<PlacedAnswer> {
                 let text = |part: &[u8]| String::from_utf8(part.to_vec()).expect("text");
                 let stretches = judgement.stretches();
                 let answer = match (*damaged, judgement.number()) {
-                    (true, _) => Answer::GroupRefused(Refusal::DamagedByte),
+                    (true, _) => Answer::GroupRefused(Refusal::DamagedByte.into()),
                     (false, 1) => Answer::GroupAccepted {
                         label: text(stretches.label),
                         stamp: text(stretches.stamp),
                         data: text(stretches.data),
                     },
                     (false, _) => match judgement {
-                        crate::group::Judgement::Refused(refusal) => Answer::GroupRefused(refusal),
+                        crate::group::Judgement::Refused(fault) => Answer::GroupRefused(fault),
                         crate::group::Judgement::Accepted(_) => unreachable!(),
                     },
                 };
@@ -879,12 +880,20 @@ fn rounds_give_the_answers_of_the_line_in_order() {
             assert!(counts[4] > 0 || before == 0);
             taken += usize::from(counts[4]);
             if sheet[16] != 0 {
-                gathered.push((taken - 1, sheet[24]));
+                gathered.push((taken - 1, sheet[24], sheet[27]));
             }
         }
-        let expected: Vec<(usize, u8)> = read_whole(mode, &wire)
+        let fourth_byte = |answer: &Answer| match answer {
+            Answer::GroupAccepted { data, .. } => data.len() as u8,
+            Answer::GroupRefused(fault) => fault.place as u8,
+            _ => 0,
+        };
+        let expected: Vec<(usize, u8, u8)> = read_whole(mode, &wire)
             .iter()
-            .map(|placed| (placed.place, placed.answer.number()))
+            .map(|placed| {
+                let answer = &placed.answer;
+                (placed.place, answer.number(), fourth_byte(answer))
+            })
             .collect();
         assert_eq!(gathered, expected);
     }
@@ -987,7 +996,7 @@ fn replies_have_their_form() {
         replay(&log),
         format!(
             "O 0\nO 16\nD 0\nR 18 0 0 0 0 0 0 0 0 abab\nR 18 0 0 0 0 0 0 0 0 -\n\
-             J 1 55524d5331 - 323330\nJ 19 - - -\n\
+             J 1 55524d5331 - 323330 0\nJ 19 - - - 0\n\
              W 0 11 0a50d2c5c609303609{check:02x}8dff\nW 15 0 ffffff\nW 11 0 -\n"
         )
     );
@@ -1005,9 +1014,9 @@ fn unreadable_logs() {
     assert_eq!(replay(b"D\x00\x02\x00A"), "? 1 0 cut short\n");
     assert_eq!(replay(b"XO\x00\x00"), "? 1 0 unknown letter\n");
     let long = [&b"J\x01\x00\x10"[..], &[b'A'; 4096]].concat();
-    assert_eq!(replay(&long), "J 8 - - -\n");
+    assert_eq!(replay(&long), "J 8 - - - 0\n");
     let two = [&long[..], b"O\x08\x00", b"W\x01\x05URM"].concat();
-    assert_eq!(replay(&two), "J 8 - - -\nO 16\n? 3 4103 cut short\n");
+    assert_eq!(replay(&two), "J 8 - - - 0\nO 16\n? 3 4103 cut short\n");
     let too_long = [&b"J\x01\x01\x10"[..], &[b'A'; 4097]].concat();
     assert_eq!(replay(&too_long), "? 1 0 length over 4096\n");
     assert!(replay(b"R\x00\x10\x00").starts_with("R 0 0 0 0 0 0 0 0 0 0000"));
@@ -1050,7 +1059,9 @@ fn a_line_does_not_depend_on_the_others() {
                                 .entries()
                                 .iter()
                                 .filter(|entry| entry.line == line)
-                                .map(|entry| format!("{} {:?}", entry.number, entry.texts))
+                                .map(|entry| {
+                                    format!("{} {:?} {}", entry.number, entry.texts, entry.place)
+                                })
                                 .collect();
                             format!("{} {own_entries:?}", counts[line])
                         }
@@ -1126,9 +1137,11 @@ fn m_101_small_seasons_are_shown_as_they_came() {
         for season in SMALL_SEASONS {
             let [label, stamp, data] = fields_with(rule, season);
             let wire = frame_with(&[rule], season);
+            // Where the stamp begins (M-104).
+            let place = label.len() + 1;
             // The listing.
             let listed = if six {
-                "12\n3\n".to_string()
+                format!("12 {place}\n3\n")
             } else {
                 format!("1 {} {} {}\n2\n", text(&label), text(&stamp), text(&data))
             };
@@ -1140,7 +1153,7 @@ fn m_101_small_seasons_are_shown_as_they_came() {
             let taken = wire.len() as u8 - 1;
             assert_eq!(station.round(&mut sheet), Ok([taken, 0, 0, 0, 0, 0, 0, 0]));
             let entry = if six {
-                vec![12, 0, 0, 0]
+                vec![12, 0, 0, place as u8]
             } else {
                 let lengths = [1, label.len() as u8, 13, data.len() as u8];
                 [&lengths[..], &label, &stamp, &data].concat()
@@ -1151,11 +1164,11 @@ fn m_101_small_seasons_are_shown_as_they_came() {
             // Replay.
             let written = group_on_wire(&content_with(rule, season));
             let replayed = if six {
-                "J 12 - - -\nW 12 0 55\n".to_string()
+                format!("J 12 - - - {place}\nW 12 0 55\n")
             } else {
                 let hex = [&label, &stamp, &data].map(|field| hexadecimal(field));
                 let buffer = hexadecimal(&written);
-                format!("J 1 {}\nW 0 {} {buffer}\n", hex.join(" "), written.len())
+                format!("J 1 {} 0\nW 0 {} {buffer}\n", hex.join(" "), written.len())
             };
             let judging = Call::Judge {
                 mode: STANDARD,

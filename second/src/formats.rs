@@ -2,7 +2,8 @@
 //!
 //! A format is a small grammar. Data are held against it by going over all
 //! ways of reading them, so that a field of varying length needs no rule of
-//! how far it reaches.
+//! how far it reaches. Some characters may be left open: then it is asked
+//! whether data fit that have the others.
 
 use std::collections::BTreeSet;
 
@@ -64,22 +65,31 @@ pub fn one_text_of(texts: &[&'static str]) -> Format {
     Format::OneOf(texts.iter().map(|text| exactly(text)).collect())
 }
 
+/// A character of data, or none where it is left open.
+type Slot = Option<u8>;
+
 impl Field {
     /// All places where the field can end in the data, when it begins at this
-    /// place.
-    fn ends(&self, data: &[u8], begin: usize) -> BTreeSet<usize> {
+    /// place. Any field has some character for each of its places, so what is
+    /// left open stands in no field's way.
+    fn ends(&self, data: &[Slot], begin: usize) -> BTreeSet<usize> {
         let rest = &data[begin..];
         match self {
             Field::Run { kind, least, most } => {
-                let right = rest.iter().take_while(|one| kind.holds(**one)).count();
+                let of_kind = |one: &&Slot| one.is_none_or(|character| kind.holds(character));
+                let right = rest.iter().take_while(of_kind).count();
                 (*least..=right.min(*most))
                     .map(|count| begin + count)
                     .collect()
             }
-            Field::Exactly(text) if rest.starts_with(text.as_bytes()) => {
-                BTreeSet::from([begin + text.len()])
+            Field::Exactly(text) => {
+                let mut pairs = text.bytes().zip(rest);
+                let same = pairs.all(|(own, one)| one.is_none_or(|character| character == own));
+                match same && text.len() <= rest.len() {
+                    true => BTreeSet::from([begin + text.len()]),
+                    false => BTreeSet::new(),
+                }
             }
-            Field::Exactly(_) => BTreeSet::new(),
         }
     }
 
@@ -100,12 +110,30 @@ impl Format {
 
     /// Whether data fit: some way of reading them ends where they end.
     pub fn fits(&self, data: &[u8]) -> bool {
-        self.ends(data, 0).contains(&data.len())
+        self.fits_where(data, |_| true)
+    }
+
+    /// Whether some fitting data of the same length have the same characters
+    /// wherever this holds of the place; the others are left open.
+    pub fn fits_where(&self, data: &[u8], same_at: impl Fn(usize) -> bool) -> bool {
+        let characters = data.iter().enumerate();
+        let slots: Vec<Slot> = characters
+            .map(|(place, character)| same_at(place).then_some(*character))
+            .collect();
+        self.ends(&slots, 0).contains(&slots.len())
+    }
+
+    /// Document 02, M-104: "the first that no fitting data of that length have
+    /// there after the same beginning"; none where the data fit. If no fitting
+    /// data have the length, it is the first of all. Where all characters are
+    /// of one kind, it is the first that is not.
+    pub fn first_wrong(&self, data: &[u8]) -> Option<usize> {
+        (0..data.len()).find(|last| !self.fits_where(data, |place| place <= *last))
     }
 
     /// All places where the format can end in the data, when it begins at this
     /// place.
-    fn ends(&self, data: &[u8], begin: usize) -> BTreeSet<usize> {
+    fn ends(&self, data: &[Slot], begin: usize) -> BTreeSet<usize> {
         match self {
             Format::Field(field) => field.ends(data, begin),
             Format::Sequence(parts) => {

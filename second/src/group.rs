@@ -1,7 +1,7 @@
-//! One group, read and written (document 01, "One group"; document 02, M-100 and
-//! M-101).
+//! One group, read and written (document 01, "One group"; document 02, M-100,
+//! M-101 and M-104).
 
-use crate::numbers::Refusal;
+use crate::numbers::{Fault, Refusal};
 use crate::table::{find_rule, Mode, Rule, Season};
 use crate::wire::{all_to_wire, CARRIAGE_RETURN, HORIZONTAL_TAB, LINE_FEED};
 
@@ -23,7 +23,7 @@ pub struct Stretches<'content> {
 #[derive(Clone, Copy, Debug, PartialEq, Eq)]
 pub enum Judgement<'content> {
     Accepted(Stretches<'content>),
-    Refused(Refusal),
+    Refused(Fault),
 }
 
 impl<'content> Judgement<'content> {
@@ -31,7 +31,16 @@ impl<'content> Judgement<'content> {
     pub fn number(&self) -> u8 {
         match self {
             Judgement::Accepted(_) => 1,
-            Judgement::Refused(refusal) => refusal.number(),
+            Judgement::Refused(fault) => fault.refusal.number(),
+        }
+    }
+
+    /// Document 02, M-104: "Let judging a group also tell a place in the content,
+    /// counted from 0"; it is 0 for an accepted group.
+    pub fn place(&self) -> usize {
+        match self {
+            Judgement::Accepted(_) => 0,
+            Judgement::Refused(fault) => fault.place,
         }
     }
 
@@ -94,25 +103,36 @@ pub fn days_in_month(year: u32, month: u32) -> u32 {
 pub fn judge(mode_number: u8, content: &[u8]) -> Judgement<'_> {
     match take_apart(mode_number, content) {
         Ok(stretches) => Judgement::Accepted(stretches),
-        Err(refusal) => Judgement::Refused(refusal),
+        Err(fault) => Judgement::Refused(fault),
     }
 }
 
-fn take_apart(mode_number: u8, content: &[u8]) -> Result<Stretches<'_>, Refusal> {
+fn take_apart(mode_number: u8, content: &[u8]) -> Result<Stretches<'_>, Fault> {
     let mode = Mode::from_number(mode_number).ok_or(Refusal::UnknownMode)?;
     if content.len() > LONGEST_CONTENT {
-        return Err(Refusal::ContentTooLong);
+        return Err(Refusal::ContentTooLong.into());
     }
     let shape = find_shape(mode, content).ok_or(Refusal::WrongShape)?;
     if shape.check != check_character(shape.summed) {
-        return Err(Refusal::WrongCheckCharacter);
+        return Err(Refusal::WrongCheckCharacter.into());
     }
     let rule = find_rule(mode, shape.label).ok_or(Refusal::UnknownLabel)?;
     let (stamp, data) = match rule.stamp {
         None => (&content[..0], shape.rest),
-        Some(season) => part_stamp(season, shape.rest).ok_or(Refusal::WrongStamp)?,
+        // "For 12 the first character after the label's separator", whatever is
+        // wrong with the stamp. That may be the final separator itself.
+        Some(season) => part_stamp(season, shape.rest).ok_or(Fault {
+            refusal: Refusal::WrongStamp,
+            place: shape.label.len() + 1,
+        })?,
     };
-    judge_data(rule, data)?;
+    judge_data(rule, data).map_err(|refusal| match refusal {
+        Refusal::WrongKind => Fault {
+            refusal,
+            place: place_of_wrong_data(rule, content, data),
+        },
+        other => other.into(),
+    })?;
     Ok(Stretches {
         label: shape.label,
         stamp,
@@ -189,6 +209,13 @@ fn judge_data(rule: &Rule, data: &[u8]) -> Result<(), Refusal> {
         return Err(Refusal::WrongKind);
     }
     Ok(())
+}
+
+/// "For 14 the first wrong data character." Counted from the end of the content,
+/// the data stand before the final separator and the check character.
+fn place_of_wrong_data(rule: &Rule, content: &[u8], data: &[u8]) -> usize {
+    let wrong = rule.format.first_wrong(data);
+    content.len() - 2 - data.len() + wrong.expect("data that do not fit go wrong somewhere")
 }
 
 /// The wire bytes of a group: "LF, content and CR as sound wire bytes".

@@ -241,6 +241,10 @@ impl Generator {
                 self.note("judging: small season");
                 self.degraded_draft().content()
             }
+            75..=79 if mode == Mode::Business => {
+                self.note("judging: group that goes wrong somewhere");
+                self.wrong_somewhere_draft(mode).content()
+            }
             0..=79 => {
                 self.note("judging: spoilt group");
                 let draft = self.spoilt_draft(
@@ -259,20 +263,24 @@ impl Generator {
                 );
                 draft.content()
             }
-            80..=84 => {
+            80..=86 => {
                 self.note("judging: label that misses one of the list");
                 self.near_label_draft(mode, &MISSES_ALONE).content()
             }
-            85 | 86 => {
+            87 | 88 => {
                 self.note("judging: content of hardly any characters");
                 self.short_content(mode)
             }
-            87..=94 => {
+            89..=93 => {
+                self.note("judging: group that goes wrong somewhere");
+                self.wrong_somewhere_draft(mode).content()
+            }
+            94..=96 => {
                 self.note("judging: content of an edge size");
                 let length = *self.dice.pick(&EDGE_SIZES);
                 self.sized_content(mode, length)
             }
-            95..=97 => {
+            97 => {
                 self.note("judging: noise");
                 let length = self.dice.below(140);
                 (0..length).map(|_| self.dice.byte()).collect()
@@ -383,7 +391,7 @@ impl Generator {
     }
 
     /// A frame begun anew with one group of at least this width, if the mode
-    /// has such labels.
+    /// has such labels. Now and then its data are wrong somewhere.
     fn long_group(&mut self, mode: Mode, least_width: usize) -> Vec<u8> {
         self.note("delivery: a long group");
         let mut draft = self.right_draft(mode);
@@ -392,6 +400,9 @@ impl Generator {
                 break;
             }
             draft = self.right_draft(mode);
+        }
+        if self.dice.percent(20) {
+            self.spoil(&mut draft, Spoiling::Kind);
         }
         let mut wire = vec![to_wire(START_OF_TEXT)];
         wire.extend(group_on_wire(&draft.content()));
@@ -550,8 +561,10 @@ impl Maker<'_> {
             _ => generator.dice.between(1, 70),
         };
         while self.streams[line].len() < length {
-            if generator.dice.percent(50) {
-                self.streams[line].extend(generator.own_frame(mode));
+            match generator.dice.below(20) {
+                0..=9 => self.streams[line].extend(generator.own_frame(mode)),
+                10..=13 => self.streams[line].extend(generator.wrong_frame(mode)),
+                _ => {}
             }
             let more = generator.traffic(mode, 100);
             self.streams[line].extend(more);

@@ -24,6 +24,7 @@ pub mod station;
 pub mod table;
 pub mod tally;
 pub mod wire;
+pub mod wrong_places;
 
 #[cfg(test)]
 mod figures;

@@ -166,7 +166,7 @@ fn find_group_end(signals: &[Signal], range: Range<usize>) -> Option<usize> {
 fn judge_on_line(mode: Mode, group: &[Signal]) -> Answer {
     // "In a group it marks the group damaged and adds no content."
     if group.contains(&Signal::Unsound) {
-        return Answer::GroupRefused(Refusal::DamagedByte);
+        return Answer::GroupRefused(Refusal::DamagedByte.into());
     }
     let content: Vec<u8> = group
         .iter()
@@ -177,10 +177,10 @@ fn judge_on_line(mode: Mode, group: &[Signal]) -> Answer {
         .collect();
     // "Content, up to 128; from the 129th on the group is too long."
     if content.len() > LONGEST_CONTENT {
-        return Answer::GroupRefused(Refusal::ContentTooLong);
+        return Answer::GroupRefused(Refusal::ContentTooLong.into());
     }
     match judge(mode.number(), &content) {
-        Judgement::Refused(refusal) => Answer::GroupRefused(refusal),
+        Judgement::Refused(fault) => Answer::GroupRefused(fault),
         Judgement::Accepted(stretches) => Answer::GroupAccepted {
             label: text_of(stretches.label),
             stamp: text_of(stretches.stamp),

@@ -1,7 +1,8 @@
-//! The listing of a capture (document 01, "The listing"; document 02, M-100).
+//! The listing of a capture (document 01, "The listing"; document 02, M-100 and
+//! M-104).
 
 use crate::line::{read_whole, PlacedAnswer};
-use crate::numbers::{Answer, Refusal};
+use crate::numbers::{Answer, Fault, Refusal};
 use crate::table::Mode;
 
 /// The mode of a capture and its wire bytes, or 20: "capture empty", or "not
@@ -30,12 +31,17 @@ pub fn listing(capture: &[u8]) -> String {
 }
 
 /// "The number; for 1 also a space, label, space, stamp or `-`, space, data."
+/// Document 02, M-104: "a space and the place after 12 and 14".
 fn listing_line(answer: &Answer) -> String {
     match answer {
         Answer::GroupAccepted { label, stamp, data } => {
             let shown_stamp = if stamp.is_empty() { "-" } else { stamp };
             format!("{} {label} {shown_stamp} {data}\n", answer.number())
         }
+        Answer::GroupRefused(Fault {
+            refusal: Refusal::WrongStamp | Refusal::WrongKind,
+            place,
+        }) => format!("{} {place}\n", answer.number()),
         _ => format!("{}\n", answer.number()),
     }
 }

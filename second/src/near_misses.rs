@@ -110,11 +110,19 @@ impl Generator {
     }
 
     /// Spoils data of several fields, or of a text: near misses, of which some
-    /// fit by chance.
+    /// fit by chance. Now and then two things are wrong with them.
     pub fn spoil_fields(&mut self, draft: &mut Draft) {
-        match self.dice.below(16) {
+        self.spoil_some_field(draft);
+        if !draft.data.is_empty() && self.dice.percent(25) {
+            self.exchange_character(draft);
+        }
+    }
+
+    fn spoil_some_field(&mut self, draft: &mut Draft) {
+        match self.dice.below(19) {
+            16..=18 if draft.rule.alternatives.len() > 1 => self.splice_alternatives(draft),
             0..=5 if draft.rule.has_gap() => self.move_into_gap(draft),
-            0..=3 => self.exchange_character(draft),
+            0..=3 | 16..=18 => self.exchange_character(draft),
             4 => self.leave_character_out(draft),
             5 => self.put_character_in(draft),
             6 | 7 => self.exchange_unit(draft),
@@ -154,7 +162,7 @@ impl Generator {
 
     /// One character of the data becomes another: one that is next to it, its
     /// large or small letter, or one of other fields or of no kind.
-    fn exchange_character(&mut self, draft: &mut Draft) {
+    pub fn exchange_character(&mut self, draft: &mut Draft) {
         self.note("spoilt: a data character exchanged");
         let place = self.dice.below(draft.data.len());
         let before = draft.data[place];

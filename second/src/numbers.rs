@@ -1,5 +1,5 @@
 //! The answers and refusals of document 01's table "Numbers", 13, 14, 19 and 20
-//! as document 02, M-100, changes them.
+//! as document 02, M-100, changes them, and the place that M-104 adds.
 
 /// A refusal, by the sentence of the table that gives it.
 #[derive(Clone, Copy, Debug, PartialEq, Eq, PartialOrd, Ord)]
@@ -59,6 +59,21 @@ impl Refusal {
     }
 }
 
+/// A refused group: why, and "a place in the content, counted from 0" (document
+/// 02, M-104).
+#[derive(Clone, Copy, Debug, PartialEq, Eq)]
+pub struct Fault {
+    pub refusal: Refusal,
+    pub place: usize,
+}
+
+/// "For all others 0": a refusal that is given no place has that.
+impl From<Refusal> for Fault {
+    fn from(refusal: Refusal) -> Fault {
+        Fault { refusal, place: 0 }
+    }
+}
+
 /// The number of an opening, delivery, writing or round: 0 when it "is not
 /// refused", else the refusal's number.
 pub fn number_of_call<Done>(result: &Result<Done, Refusal>) -> u8 {
@@ -86,7 +101,7 @@ pub enum Answer {
     /// 6: "LF inside a group"
     LineFeedInsideGroup,
     /// 7 to 14: the group that a CR closed is refused.
-    GroupRefused(Refusal),
+    GroupRefused(Fault),
 }
 
 impl Answer {
@@ -99,7 +114,7 @@ impl Answer {
             Answer::FrameInterrupted => 4,
             Answer::FrameBegunAgain => 5,
             Answer::LineFeedInsideGroup => 6,
-            Answer::GroupRefused(refusal) => refusal.number(),
+            Answer::GroupRefused(fault) => fault.refusal.number(),
         }
     }
 }

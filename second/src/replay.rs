@@ -220,6 +220,7 @@ pub enum Reply {
         label: Vec<u8>,
         stamp: Vec<u8>,
         data: Vec<u8>,
+        place: usize,
     },
     Written {
         number: u8,
@@ -248,8 +249,9 @@ impl Reply {
                 label,
                 stamp,
                 data,
+                place,
             } => format!(
-                "J {number} {} {} {}",
+                "J {number} {} {} {} {place}",
                 hexadecimal(label),
                 hexadecimal(stamp),
                 hexadecimal(data)
@@ -280,20 +282,7 @@ impl Reply {
             .map(|pair| usize::from(u16::from_le_bytes([pair[0], pair[1]])))
             .enumerate()
             .filter(|(_, offset)| *offset != 0)
-            .map(|(line, offset)| {
-                let mut begin = offset + 4;
-                let texts = [1, 2, 3].map(|place| {
-                    let length = usize::from(sheet[offset + place]);
-                    begin += length;
-                    sheet[begin - length..begin].to_vec()
-                });
-                Entry {
-                    line,
-                    offset,
-                    number: sheet[offset],
-                    texts,
-                }
-            })
+            .map(|(line, offset)| Entry::read(line, offset, &sheet[offset..]))
             .collect()
     }
 }
@@ -304,8 +293,35 @@ pub struct Entry {
     pub line: usize,
     pub offset: usize,
     pub number: u8,
-    /// Label, stamp and data.
+    /// Label, stamp and data of answer 1, else empty.
     pub texts: [Vec<u8>; 3],
+    /// The place of a refusal (document 02, M-104), else 0.
+    pub place: usize,
+}
+
+impl Entry {
+    /// Reads the entry that stands at the beginning of these bytes. The fourth
+    /// of them is a length for answer 1 only.
+    fn read(line: usize, offset: usize, bytes: &[u8]) -> Entry {
+        let number = bytes[0];
+        let (lengths, place) = match number {
+            1 => ([bytes[1], bytes[2], bytes[3]], 0),
+            _ => ([0; 3], usize::from(bytes[3])),
+        };
+        let mut left = &bytes[4..];
+        let texts = lengths.map(|length| {
+            let (text, rest) = left.split_at(usize::from(length));
+            left = rest;
+            text.to_vec()
+        });
+        Entry {
+            line,
+            offset,
+            number,
+            texts,
+            place,
+        }
+    }
 }
 
 /// Makes one call on a station.
@@ -334,6 +350,7 @@ pub fn perform(station: &mut Station, call: &Call) -> Reply {
                 label: stretches.label.to_vec(),
                 stamp: stretches.stamp.to_vec(),
                 data: stretches.data.to_vec(),
+                place: judgement.place(),
             }
         }
         Call::Write {

@@ -1,4 +1,4 @@
-//! The station of eight lines (document 01, "The station").
+//! The station of eight lines (document 01, "The station"; document 02, M-104).
 
 use crate::line::Line;
 use crate::numbers::{Answer, Refusal};
@@ -131,6 +131,9 @@ pub fn counts_of(round: &Result<[u8; LINES], Refusal>) -> [u8; LINES] {
 
 /// "An entry is answer number, label length, stamp length, data length, then
 /// label, stamp and data. All but answer 1 have three zeros and no text."
+/// Document 02, M-104: "for a refusal the fourth byte holds this place instead
+/// of zero; the second and third stay zero". A content has at most 128
+/// characters, so a byte holds it.
 fn entry_of(answer: &Answer) -> Vec<u8> {
     match answer {
         Answer::GroupAccepted { label, stamp, data } => {
@@ -140,6 +143,7 @@ fn entry_of(answer: &Answer) -> Vec<u8> {
             entry.extend(texts.iter().flat_map(|text| text.bytes()));
             entry
         }
+        Answer::GroupRefused(fault) => vec![answer.number(), 0, 0, fault.place as u8],
         _ => vec![answer.number(), 0, 0, 0],
     }
 }

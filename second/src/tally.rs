@@ -7,12 +7,13 @@ use crate::histories::CALLS_IN_HISTORY;
 use crate::line::{read_whole, PlacedAnswer};
 use crate::listing::open_capture;
 use crate::near_labels::{misses_of, Miss, MISSES};
-use crate::numbers::Answer;
+use crate::numbers::{Answer, Fault};
 use crate::replay::{read_log, Call, Entry, Reply};
 use crate::station::{LINES, LONGEST_TURN};
 use crate::table::{all_rules, find_rule, stamped_rules, Mode, Rule, Season, MODES, SMALL_SEASONS};
 use crate::wire::{character_of, to_wire, HORIZONTAL_TAB, LINE_FEED};
-use std::collections::BTreeMap;
+use crate::wrong_places::{ways_of, Way, WAYS};
+use std::collections::{BTreeMap, BTreeSet};
 use std::ops::RangeInclusive;
 
 /// Where an answer was seen, one column of the closing table.
@@ -43,6 +44,13 @@ pub const GROUP_PLACES: [(Place, &str); 4] = [
     (Place::Sheet, "sheet"),
     (Place::Judging, "judging"),
     (Place::Writing, "writing"),
+];
+
+/// Those of them that read groups, and so tell where one went wrong.
+pub const READING_PLACES: [(Place, &str); 3] = [
+    (Place::Listing, "listing"),
+    (Place::Sheet, "sheet"),
+    (Place::Judging, "judging"),
 ];
 
 /// A group whose label is in its mode's list, as it was accepted, written or
@@ -105,6 +113,10 @@ pub struct Tally {
     /// How often a content of fewer than eight characters had one of the answers
     /// that come once a label is looked up, 11 to 14.
     short_contents: BTreeMap<(Place, Mode, u8), u64>,
+    /// How often a group was refused as 12 or 14 with this place in its content.
+    wrong_at: BTreeMap<(Place, Mode, u8, usize), u64>,
+    /// How often the data of a label that were refused as 14 went wrong so.
+    ways: BTreeMap<(Place, Mode, Way, &'static str), u64>,
     answers_on_64th_byte: u64,
     offsets_over_255: u64,
     largest_offset: usize,
@@ -137,10 +149,24 @@ impl Tally {
         }
     }
 
-    /// Notes a content that was refused.
-    fn note_refused(&mut self, place: Place, number: u8, mode: Mode, content: &[u8]) {
+    /// Notes a content that was refused, with this place in it.
+    fn note_refused(
+        &mut self,
+        place: Place,
+        number: u8,
+        mode: Mode,
+        content: &[u8],
+        wrong_at: usize,
+    ) {
         if let (12..=14, Some(group)) = (number, Group::of_content(mode, content)) {
             self.note_group(place, number, &group);
+            if number == 14 {
+                self.note_ways(place, &group, wrong_at);
+            }
+        }
+        if number == 12 || number == 14 {
+            let key = (place, mode, number, wrong_at);
+            *self.wrong_at.entry(key).or_insert(0) += 1;
         }
         match (number, label_of_content(mode, content)) {
             // Without a label a content is not in shape, whatever else it has.
@@ -159,6 +185,15 @@ impl Tally {
         for (miss, listed) in misses_of(mode, label) {
             let key = (place, mode, miss, listed);
             *self.misses.entry(key).or_insert(0) += 1;
+        }
+    }
+
+    /// Notes how data went wrong that were refused as 14.
+    fn note_ways(&mut self, place: Place, group: &Group, wrong_at: usize) {
+        let rule = find_rule(group.mode, group.label).expect("the label was found");
+        for way in ways_of(rule, group.data, wrong_at) {
+            let key = (place, group.mode, way, rule.label.as_str());
+            *self.ways.entry(key).or_insert(0) += 1;
         }
     }
 
@@ -250,6 +285,28 @@ impl Tally {
             .sum()
     }
 
+    /// The places in contents that came with 12 or 14.
+    pub fn places_met(&self, place: Place, number: u8) -> BTreeSet<usize> {
+        let keys = self.wrong_at.keys();
+        keys.filter(|(at, _, answer, _)| (*at, *answer) == (place, number))
+            .map(|(_, _, _, wrong_at)| *wrong_at)
+            .collect()
+    }
+
+    /// How often the data of one of these labels went wrong so.
+    pub fn times_wrong(
+        &self,
+        place: Place,
+        mode: Mode,
+        way: Way,
+        label_is: impl Fn(&str) -> bool,
+    ) -> u64 {
+        let of_way = self.ways.iter().filter(|((at, of, by, label), _)| {
+            (*at, *of, *by) == (place, mode, way) && label_is(label)
+        });
+        of_way.map(|(_, times)| times).sum()
+    }
+
     /// How often an answer was seen at all the places.
     pub fn times_answered(&self, number: u8) -> u64 {
         PLACES
@@ -282,6 +339,8 @@ impl Tally {
         add_times(&mut self.alternatives, other.alternatives);
         add_times(&mut self.misses, other.misses);
         add_times(&mut self.short_contents, other.short_contents);
+        add_times(&mut self.wrong_at, other.wrong_at);
+        add_times(&mut self.ways, other.ways);
         self.add_deeds(&other.deeds);
     }
 
@@ -310,9 +369,9 @@ impl Tally {
                 };
                 self.note_group(Place::Listing, number, &group);
             }
-            Answer::GroupRefused(_) => {
+            Answer::GroupRefused(Fault { place, .. }) => {
                 let content = content_closed_at(wire, placed.place);
-                self.note_refused(Place::Listing, number, mode, &content);
+                self.note_refused(Place::Listing, number, mode, &content, *place);
             }
             _ => {}
         }
@@ -381,7 +440,11 @@ impl Tally {
         let (
             Some(mode),
             Reply::Judged {
-                label, stamp, data, ..
+                label,
+                stamp,
+                data,
+                place,
+                ..
             },
         ) = (Mode::from_number(mode), reply)
         else {
@@ -396,7 +459,7 @@ impl Tally {
             };
             self.note_group(Place::Judging, number, &group);
         } else {
-            self.note_refused(Place::Judging, number, mode, content);
+            self.note_refused(Place::Judging, number, mode, content, *place);
         }
     }
 
@@ -419,7 +482,7 @@ impl Tally {
             self.note_group(Place::Sheet, entry.number, &group);
         } else if matches!(entry.number, 9 | 11..=14) {
             let content = content_closed_at(&line.delivered, line.taken - 1);
-            self.note_refused(Place::Sheet, entry.number, mode, &content);
+            self.note_refused(Place::Sheet, entry.number, mode, &content, entry.place);
         }
     }
 
@@ -442,6 +505,8 @@ impl Tally {
         report.push_str(&self.report_of_business());
         report.push_str(&self.report_of_misses());
         report.push_str(&self.report_of_short_contents());
+        report.push_str(&self.report_of_wrong_places());
+        report.push_str(&self.report_of_ways());
         report.push_str(&format!(
             "turns with an answer on the 64th byte: {}\n\
              entries at an offset over 255: {}, largest offset: {}\n",
@@ -569,15 +634,41 @@ impl Tally {
     fn report_of_short_contents(&self) -> String {
         let mut report =
             "contents of fewer than eight characters refused as 11, and as 12 to 14:\n".to_string();
-        for (place, name) in GROUP_PLACES {
+        // The writer is handed no content.
+        for (place, name) in READING_PLACES {
             let [unlisted, listed] = [11..=11, 12..=14].map(|numbers| {
                 let times = MODES.map(|mode| self.times_short(place, mode, numbers.clone()));
                 times.iter().sum::<u64>()
             });
-            // The writer is handed no content.
-            if place != Place::Writing {
-                report.push_str(&format!("  {name}: {unlisted} and {listed}\n"));
-            }
+            report.push_str(&format!("  {name}: {unlisted} and {listed}\n"));
+        }
+        report
+    }
+
+    /// How many places in contents came with 12 and with 14, and the last one.
+    fn report_of_wrong_places(&self) -> String {
+        let mut report = "different places in the content met with 12 and with 14:\n".to_string();
+        for (place, name) in READING_PLACES {
+            let [stamps, data] = [12, 14].map(|number| self.places_met(place, number));
+            report.push_str(&format!(
+                "  {name}: {} and {}; the last {}\n",
+                stamps.len(),
+                data.len(),
+                data.last().unwrap_or(&0)
+            ));
+        }
+        report
+    }
+
+    /// How often data that were refused as 14 went wrong in each way.
+    fn report_of_ways(&self) -> String {
+        let mut report = "how data refused as 14 went wrong, and how often:\n".to_string();
+        for (way, name) in WAYS {
+            let shares = READING_PLACES.map(|(place, place_name)| {
+                let times = MODES.map(|mode| self.times_wrong(place, mode, way, |_| true));
+                format!("{place_name} {}", times.iter().sum::<u64>())
+            });
+            report.push_str(&format!("  {name}: {}\n", shares.join(", ")));
         }
         report
     }

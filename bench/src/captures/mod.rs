@@ -4,7 +4,7 @@
 //! the bytes between them cost.
 
 mod business;
-mod dice;
+pub mod dice;
 pub mod groups;
 mod noise;
 

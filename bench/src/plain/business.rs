@@ -1,7 +1,7 @@
 //! The business meter (PME-PMI): what each of its labels asks of the data, by document 003, 2.9. A label is found by a
 //! `match`, as those of the other modes are; the forms of the data are patterns of slices.
 
-use super::group::{all_digits, all_text};
+use super::group::{all_digits, all_text, is_text};
 use super::table::{Kind, Rule};
 
 pub fn find(label: &[u8]) -> Option<Rule> {
@@ -96,6 +96,63 @@ pub fn has_fields(kind: Kind, data: &[u8]) -> bool {
         },
         Kind::Decimal | Kind::Hexadecimal | Kind::Text => false,
     }
+}
+
+/// Where data of a right length that do not have the fields of a kind go wrong: at the first character that no fitting data of
+/// that length have there after the same beginning, so as far on as any form of that length goes along with them. If there is
+/// no such form, it is the first of all.
+pub fn first_wrong(kind: Kind, data: &[u8]) -> usize {
+    let of_that_length = forms(kind)
+        .iter()
+        .filter(|(form, least)| (*least..=form.len()).contains(&data.len()));
+    of_that_length
+        .map(|(form, _)| along(form.as_bytes(), data))
+        .max()
+        .unwrap_or(0)
+}
+
+/// The forms of a kind's data, and the smallest length of each: `9` is a digit, `?` any character, `;` a comma or a point, and
+/// all others are themselves. A form of varying length is written out at its largest, and shorter data have fewer of the digits
+/// that it begins with.
+fn forms(kind: Kind) -> &'static [(&'static str, usize)] {
+    match kind {
+        Kind::Test => &[("TEST", 4)],
+        Kind::Control => &[("CONTROLE", 8)],
+        Kind::Configuration => &[("CONSO", 5), ("PROD", 4)],
+        Kind::Signal => &[("ACTIF", 5), ("INACTIF", 7)],
+        Kind::Overload => &[("DEP", 3), ("DEP ", 4)],
+        Kind::Notice => &[("TD-???", 6)],
+        Kind::Date => &[("99/99/99 99:99:99", 17)],
+        Kind::DatedPeriod => &[("99/99/99 99:99:99-???", 21)],
+        Kind::WattHours => &[("9999999Wh", 3)],
+        Kind::VarHours => &[("9999999varh", 5)],
+        Kind::VoltAmpereHours => &[("9999999VAh", 4)],
+        Kind::KilowattHours => &[("9999999kWh", 4)],
+        Kind::KilovarHours => &[("9999999kvarh", 6)],
+        Kind::Power => &[("99999kW", 3)],
+        Kind::PowerPoint => &[("99999kW", 3), ("99999TkW", 4)],
+        Kind::ContractPower => &[("99999kW", 3), ("99999kVA", 4)],
+        Kind::Tangent => &[
+            ("99999;99", 4),
+            ("-9;99", 5),
+            ("-99;99", 6),
+            ("-999;99", 7),
+            ("-9999;99", 8),
+        ],
+        Kind::Decimal | Kind::Hexadecimal | Kind::Text => &[],
+    }
+}
+
+/// How many characters of the data go along with a form, of which shorter data are the end.
+fn along(form: &[u8], data: &[u8]) -> usize {
+    let form = &form[form.len() - data.len()..];
+    let is_right = |(&sign, &one): &(&u8, &u8)| match sign {
+        b'9' => one.is_ascii_digit(),
+        b'?' => is_text(one),
+        b';' => matches!(one, b',' | b'.'),
+        _ => one == sign,
+    };
+    form.iter().zip(data).take_while(is_right).count()
 }
 
 /// One digit at least, and so many at most.

@@ -1,6 +1,6 @@
 //! One line: bytes to answers.
 
-use super::group::{self, Fields, Notice};
+use super::group::{self, Fault, Fields, Notice};
 use super::table::Mode;
 use super::wire::{self, control};
 
@@ -29,6 +29,7 @@ pub struct Line {
 /// What a byte told. The texts of an accepted group lie in the line's content until its next group begins.
 pub enum Answer<'line> {
     Accepted(Fields<'line>),
+    Refused(Fault),
     Told(Notice),
 }
 
@@ -36,7 +37,16 @@ impl Answer<'_> {
     pub fn number(&self) -> u8 {
         match self {
             Answer::Accepted(_) => 1,
+            Answer::Refused(fault) => fault.notice as u8,
             Answer::Told(notice) => *notice as u8,
+        }
+    }
+
+    /// Where a refused group went wrong; 0 for all but 12 and 14.
+    pub fn place(&self) -> u8 {
+        match self {
+            Answer::Refused(fault) => fault.place,
+            Answer::Accepted(_) | Answer::Told(_) => 0,
         }
     }
 }
@@ -186,17 +196,17 @@ impl Line {
     /// What the group that is complete gives; one that is refused leaves its frame flawed.
     fn judge(&mut self) -> Answer<'_> {
         let judged = if self.damaged {
-            Err(Notice::GroupDamaged)
+            Err(Notice::GroupDamaged.into())
         } else if self.too_long {
-            Err(Notice::TooLong)
+            Err(Notice::TooLong.into())
         } else {
             group::judge(self.mode, &self.content[..self.length])
         };
         match judged {
             Ok(fields) => Answer::Accepted(fields),
-            Err(notice) => {
+            Err(fault) => {
                 self.flawed = true;
-                Answer::Told(notice)
+                Answer::Refused(fault)
             }
         }
     }

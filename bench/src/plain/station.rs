@@ -118,7 +118,7 @@ impl Station {
 /// Writes an entry at the start of what is left of the sheet. Gives its length.
 fn write_entry(sheet: &mut [u8], answer: &Answer) -> usize {
     let Answer::Accepted(fields) = answer else {
-        sheet[..4].copy_from_slice(&[answer.number(), 0, 0, 0]);
+        sheet[..4].copy_from_slice(&[answer.number(), 0, 0, answer.place()]);
         return 4;
     };
     let (label, stamp, data) = (fields.label, fields.stamp, fields.data);

@@ -97,15 +97,17 @@ impl Calls {
     }
 
     pub fn judge(&mut self, mode: u32, content: &[u8], stretches: &mut [usize; 6]) -> u32 {
+        let mut place = 0;
         let words = [
             mode as usize,
             content.as_ptr() as usize,
             content.len(),
             from_mut(stretches) as usize,
+            from_mut::<usize>(&mut place) as usize,
         ];
         let function = ours::espandim_judge as *const ();
         // SAFETY: these are its arguments; every mode has its answer, address and length are those of one slice, and
-        // the six numbers, lent as `&mut`, can't overlap it.
+        // what may be written, the six numbers and the one, overlaps nothing.
         unsafe { self.judge.call(function, &words) }
     }
 

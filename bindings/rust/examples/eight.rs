@@ -4,8 +4,9 @@
 //! usage: eight FILE.. (the first is line 0, the second line 1, and so on)
 //!
 //! A capture is H (historic), S (standard) or P (business), then wire bytes. Each answer is a line of output: the number
-//! of the line, the number of the answer and, where that is 1, label, stamp or `-`, and data, each after a space. A capture
-//! that is empty, or begins otherwise, has the answer 20. Exit status 0; 1 where a file can't be read; 2 for bad usage.
+//! of the line, the number of the answer and, where that is 1, label, stamp or `-`, and data, each after a space; where it is
+//! 12 or 14, the place in the group's content where it went wrong. A capture that is empty, or begins otherwise, has the
+//! answer 20. Exit status 0; 1 where a file can't be read; 2 for bad usage.
 
 #![forbid(unsafe_code)]
 

@@ -70,6 +70,7 @@ extern "C" {
         content: *const u8,
         length: usize,
         stretches: &mut [usize; 6],
+        place: &mut usize,
     ) -> u32;
     fn espandim_write(
         mode: u32,
@@ -130,9 +131,15 @@ pub(crate) fn round(station: &mut Station, sheet: &mut [u8], counts: &mut [u8; 8
     }
 }
 
-pub(crate) fn judge(mode: u32, content: &[u8], stretches: &mut [usize; 6]) -> u32 {
-    // SAFETY: pointer and length are those of one slice, which the six numbers, lent as `&mut`, can't overlap.
-    unsafe { espandim_judge(mode, content.as_ptr(), content.len(), stretches) }
+pub(crate) fn judge(
+    mode: u32,
+    content: &[u8],
+    stretches: &mut [usize; 6],
+    place: &mut usize,
+) -> u32 {
+    // SAFETY: pointer and length are those of one slice, which neither the six numbers nor the one, lent as `&mut`, can
+    // overlap; nor can these two each other.
+    unsafe { espandim_judge(mode, content.as_ptr(), content.len(), stretches, place) }
 }
 
 pub(crate) fn write(
@@ -170,7 +177,9 @@ pub(crate) fn bytes(station: &Station) -> &[u8; size_of::<Station>()] {
 
 #[cfg(test)]
 mod tests {
+    extern crate std;
     use super::*;
+    use std::vec::Vec;
 
     /// Document 01: 18, "sheet under 1,080 bytes", "nothing changed", and "a refused round gives eight zero counts".
     /// [`crate::Station::round`] always lends 1,080, so only here can it be given a shorter one.
@@ -205,11 +214,87 @@ mod tests {
     /// Document 01: "Refused judging shows three empty stretches"; [`crate::judge`] hands out none at all then.
     #[test]
     fn refused_judging_shows_three_empty_stretches() {
-        let mut stretches = [7; 6];
-        assert_eq!(judge(1, b"URMS1\t230\t?", &mut stretches), 1);
-        assert_eq!(stretches, [0, 5, 0, 0, 6, 3]);
-        assert_eq!(judge(1, b"URMS1\t230\t6", &mut stretches), 10);
+        let (mut stretches, mut place) = ([7; 6], 7);
+        assert_eq!(judge(1, b"URMS1\t230\t?", &mut stretches, &mut place), 1);
+        assert_eq!((stretches, place), ([0, 5, 0, 0, 6, 3], 0));
+        assert_eq!(judge(1, b"URMS1\t230\t6", &mut stretches, &mut place), 10);
         assert_eq!(stretches, [0; 6]);
+    }
+
+    /// A content of each number that judging gives, as characters and with its right check character but for 10: mode,
+    /// content, number and, of document 02's M-104, the place.
+    const JUDGED: [(u32, &[u8], u32, usize); 13] = [
+        (1, b"URMS1\t230\t?", 1, 0),
+        (3, b"URMS1\t230\t?", 19, 0),
+        (1, &[b'A'; 129], 8, 0),
+        (1, b"URMS1 230\t?", 9, 0),
+        (1, b"STGE\t003a0001\t6", 10, 0),
+        (0, b"PAPQ 0075a _", 11, 0),
+        (1, b"SMAXSN\t01200\t?", 12, 7),
+        (1, b"DATE\tH090229000000\t\t7", 12, 5),
+        (2, b"PA1MN 123456kW T", 13, 0),
+        (1, b"STGE\t003a0001\tZ", 14, 8),
+        (1, b"SMAXSN\tH081225223518\t012o0\t6", 14, 24),
+        (0, b"PAPP 0075a ^", 14, 9),
+        (2, b"PA1_s 123456kW K", 14, 11),
+    ];
+
+    /// M-104: "for 14 the first wrong data character ..; for 12 the first character after the label's separator; for all
+    /// others 0". Every call sets it, whatever was there before.
+    #[test]
+    fn judging_sets_the_place_to_0_but_for_12_and_14() {
+        for (mode, content, number, expected) in JUDGED {
+            for before in [0, 7, usize::MAX] {
+                let (mut stretches, mut place) = ([7; 6], before);
+                assert_eq!(judge(mode, content, &mut stretches, &mut place), number);
+                assert_eq!(place, expected);
+            }
+        }
+    }
+
+    /// M-104: "In a sheet entry for a refusal the fourth byte holds this place instead of zero; the second and third stay
+    /// zero." [`crate::Round`] does not show them.
+    #[test]
+    fn the_fourth_byte_of_a_refused_groups_entry_is_the_place() {
+        for (mode, content, number, place) in JUDGED {
+            if (2..=14).contains(&number) {
+                let entry = [number as u8, 0, 0, place as u8];
+                assert_eq!(first_entry(mode, &begun_frame(content)), entry);
+            }
+        }
+        // 7, and those that are no refusals of a group: 2 to 6.
+        let others: [(&[u8], u8); 6] = [
+            (&[0x82, 0x03], 2),
+            (&[0x82, 0x8D, 0x03], 3),
+            (&[0x82, 0x84], 4),
+            (&[0x82, 0x82], 5),
+            (&[0x82, 0x0A, 0x53, 0x0A], 6),
+            (&[0x82, 0x0A, 0xD3, 0x8D], 7),
+        ];
+        for (wire, number) in others {
+            assert_eq!(first_entry(1, wire), [number, 0, 0, 0]);
+        }
+    }
+
+    /// STX, LF, these characters and CR, as sound wire bytes.
+    fn begun_frame(content: &[u8]) -> Vec<u8> {
+        let sound = |&one: &u8| one | (one.count_ones() as u8 % 2) << 7;
+        let characters = [0x02, 0x0A].iter().chain(content).chain(&[0x0D]);
+        characters.map(sound).collect()
+    }
+
+    /// The first four bytes of what line 6 answers first to these bytes.
+    fn first_entry(mode: u32, wire: &[u8]) -> [u8; 4] {
+        let mut station = Station::CLOSED;
+        assert_eq!(open(&mut station, 6, mode), 0);
+        assert_eq!(deliver(&mut station, 6, wire), 0);
+        let (mut sheet, mut counts) = ([0xEE; 1080], [0; 8]);
+        while sheet[20] != 24 {
+            assert_eq!(round(&mut station, &mut sheet, &mut counts), 0);
+            assert_ne!(counts[6], 0, "there is no answer");
+        }
+        assert_eq!(sheet[28..], [0xEE; 1080 - 28]);
+        [sheet[24], sheet[25], sheet[26], sheet[27]]
     }
 
     /// Document 01: the writer tells "how many bytes it wrote, 0 when it refuses".

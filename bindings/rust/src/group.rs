@@ -1,7 +1,7 @@
 //! The reader and the writer of one group, given alone.
 
 use crate::boundary;
-use crate::numbers::{outcome, Mode, Refusal};
+use crate::numbers::{outcome, Fault, Mode, Refusal};
 use core::fmt;
 
 /// How many characters a group's content may have.
@@ -27,8 +27,19 @@ pub struct Group<'a> {
 ///
 /// # Errors
 ///
-/// 8 to 14, from [`Refusal::TooLong`] to [`Refusal::KindWrong`]: the first that holds.
-pub fn judge(mode: Mode, content: &[u8]) -> Result<Group<'_>, Refusal> {
+/// 8 to 14, from [`Refusal::TooLong`] to [`Refusal::KindWrong`]: the first that holds. With 12 and 14 comes the place in the
+/// content where the stamp or the data went wrong:
+///
+/// ```
+/// use espandim::{judge, Mode, Refusal};
+///
+/// let content = b"STGE\t003a0001\tZ";
+/// let fault = judge(Mode::Standard, content).unwrap_err();
+/// assert_eq!(fault.refusal, Refusal::KindWrong);
+/// assert_eq!(fault.place.map(|place| content[place]), Some(b'a')); // the digits of STGE are large ones
+/// assert_eq!(fault.to_string(), "a data character not of the kind (14), place 8");
+/// ```
+pub fn judge(mode: Mode, content: &[u8]) -> Result<Group<'_>, Fault> {
     judge_raw(mode.number(), content)
 }
 
@@ -37,9 +48,10 @@ pub fn judge(mode: Mode, content: &[u8]) -> Result<Group<'_>, Refusal> {
 /// # Errors
 ///
 /// [`Refusal::ModeUnknown`] (19), then as [`judge`].
-pub fn judge_raw(mode: u32, content: &[u8]) -> Result<Group<'_>, Refusal> {
-    let mut stretches = [0; 6];
-    outcome(boundary::judge(mode, content, &mut stretches), 1)?;
+pub fn judge_raw(mode: u32, content: &[u8]) -> Result<Group<'_>, Fault> {
+    let (mut stretches, mut place) = ([0; 6], 0);
+    let number = boundary::judge(mode, content, &mut stretches, &mut place);
+    outcome(number, 1).map_err(|refusal| Fault::told(refusal, place))?;
     let [label, label_length, stamp, stamp_length, data, data_length] = stretches;
     Ok(Group {
         label: &content[label..][..label_length],

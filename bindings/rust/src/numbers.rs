@@ -83,7 +83,7 @@ impl TryFrom<u32> for Mode {
     }
 }
 
-/// What a line tells of its frames and groups, an accepted group apart. The number is document 01's.
+/// What a line tells of its frames and groups, a group that is accepted or refused apart. The number is document 01's.
 #[derive(Clone, Copy, Debug, PartialEq, Eq, Hash)]
 #[repr(u32)]
 pub enum Notice {
@@ -97,28 +97,12 @@ pub enum Notice {
     FrameRestarted = 5,
     /// LF came inside a group.
     GroupRestarted = 6,
-    /// A byte of the group was damaged.
+    /// A byte of the group was damaged, so that its content is not judged.
     GroupDamaged = 7,
-    /// The group's content has over 128 characters.
-    TooLong = 8,
-    /// The group's content has under 4 characters, or its separators not where they must be.
-    Misshapen = 9,
-    /// The group's check character is wrong.
-    CheckWrong = 10,
-    /// The group's label is not in the mode's list.
-    LabelUnknown = 11,
-    /// The group's stamp is not right.
-    StampWrong = 12,
-    /// The group's data are not of the label's width; in [`Mode::Business`], shorter than its smallest or longer than its
-    /// largest.
-    WidthWrong = 13,
-    /// A character of the group's data is not of the label's kind; in [`Mode::Business`], any other data that do not fit the
-    /// label's fields.
-    KindWrong = 14,
 }
 
 impl Notice {
-    /// Document 01's number of the notice, 2 to 14.
+    /// Document 01's number of the notice, 2 to 7.
     pub const fn number(self) -> u32 {
         self as u32
     }
@@ -132,13 +116,6 @@ impl Notice {
             5 => Notice::FrameRestarted,
             6 => Notice::GroupRestarted,
             7 => Notice::GroupDamaged,
-            8 => Notice::TooLong,
-            9 => Notice::Misshapen,
-            10 => Notice::CheckWrong,
-            11 => Notice::LabelUnknown,
-            12 => Notice::StampWrong,
-            13 => Notice::WidthWrong,
-            14 => Notice::KindWrong,
             _ => return None,
         })
     }
@@ -151,7 +128,7 @@ impl fmt::Display for Notice {
     }
 }
 
-/// Why a call is refused: 8 to 14 are those of a group that is judged or written, 15 to 19 those of the calls. The
+/// Why a group or a call is refused: 8 to 14 are those of a group that is read or written, 15 to 19 those of the calls. The
 /// number is document 01's. A refused call changes nothing.
 #[derive(Clone, Copy, Debug, PartialEq, Eq, Hash)]
 #[repr(u32)]
@@ -221,6 +198,56 @@ impl fmt::Display for Refusal {
 }
 
 impl core::error::Error for Refusal {}
+
+/// Why a group is refused that was read, given alone or on a line, and where in its content it went wrong (document 02,
+/// M-104).
+#[derive(Clone, Copy, Debug, PartialEq, Eq, Hash)]
+pub struct Fault {
+    /// Why it is refused: 8 to 14, or 19 from [`judge_raw`](crate::judge_raw).
+    pub refusal: Refusal,
+    /// Where it went wrong, an index of the content: some place for 12 and 14, and none for all others.
+    ///
+    /// For [`Refusal::StampWrong`] (12) it is the first character after the label's separator, whatever is wrong with the
+    /// stamp: the final separator where nothing stands between them. For [`Refusal::KindWrong`] (14) it is the first wrong
+    /// data character: in [`Mode::Business`] the first that no fitting data of that length have there after the same
+    /// beginning, and the first of all where no fitting data have that length.
+    pub place: Option<usize>,
+}
+
+impl Fault {
+    /// The archive tells 0 where there is no place. A label and its separator stand before every place that there is.
+    pub(crate) fn told(refusal: Refusal, place: usize) -> Fault {
+        Fault {
+            refusal,
+            place: (place > 0).then_some(place),
+        }
+    }
+
+    /// Document 01's number of the refusal.
+    pub const fn number(self) -> u32 {
+        self.refusal.number()
+    }
+}
+
+/// The refusal in [`words`], with its number, and the place where there is one: `stamp not right (12), place 5`.
+impl fmt::Display for Fault {
+    fn fmt(&self, to: &mut fmt::Formatter<'_>) -> fmt::Result {
+        self.refusal.fmt(to)?;
+        match self.place {
+            Some(place) => write!(to, ", place {place}"),
+            None => Ok(()),
+        }
+    }
+}
+
+impl core::error::Error for Fault {}
+
+/// For whoever asks why, and not where: `?` takes a fault to a refusal.
+impl From<Fault> for Refusal {
+    fn from(fault: Fault) -> Refusal {
+        fault.refusal
+    }
+}
 
 /// What the number that a call gave means: `accepted`, or why it is refused.
 pub(crate) fn outcome(number: u32, accepted: u32) -> Result<(), Refusal> {

@@ -1,6 +1,6 @@
 //! What a round tells.
 
-use crate::numbers::{not_the_archive, Notice};
+use crate::numbers::{not_the_archive, Fault, Notice, Refusal};
 use crate::station::LINES;
 use core::fmt;
 
@@ -19,7 +19,9 @@ pub enum Answer<'a> {
         /// The group's data.
         data: &'a [u8],
     },
-    /// Something else is told of a frame or a group: document 01's numbers 2 to 14.
+    /// A group was refused, for this reason and at this place in its content: document 01's numbers 8 to 14.
+    Refused(Fault),
+    /// Something else is told of a frame or a group: document 01's numbers 2 to 7.
     Told(Notice),
 }
 
@@ -28,12 +30,22 @@ impl Answer<'_> {
     pub const fn number(&self) -> u32 {
         match self {
             Answer::Accepted { .. } => 1,
+            Answer::Refused(fault) => fault.number(),
             Answer::Told(notice) => notice.number(),
+        }
+    }
+
+    /// Where in its content a refused group went wrong: the place of a [`Fault`], which 12 and 14 have.
+    pub const fn place(&self) -> Option<usize> {
+        match self {
+            Answer::Refused(fault) => fault.place,
+            Answer::Accepted { .. } | Answer::Told(_) => None,
         }
     }
 }
 
-/// As document 01's listing has it: the number; for 1 also a space, label, space, stamp or `-`, space, data.
+/// As the listing has it: the number; for 1 also a space, label, space, stamp or `-`, space, data (document 01); for 12 and
+/// 14 also a space and the place (document 02, M-104): `14 8`.
 impl fmt::Display for Answer<'_> {
     fn fmt(&self, to: &mut fmt::Formatter<'_>) -> fmt::Result {
         write!(to, "{}", self.number())?;
@@ -47,7 +59,10 @@ impl fmt::Display for Answer<'_> {
                     .try_for_each(|&character| write!(to, "{}", char::from(character)))?;
             }
         }
-        Ok(())
+        match self.place() {
+            Some(place) => write!(to, " {place}"),
+            None => Ok(()),
+        }
     }
 }
 
@@ -100,8 +115,8 @@ impl Round {
     }
 }
 
-/// An entry: the number, the lengths of label, stamp and data, and these three. The proved archive writes no others;
-/// with another one a length out of range panics here, and reads nothing.
+/// An entry: 1, the lengths of label, stamp and data, and these three; or another number, two zeros and the place. The proved
+/// archive writes no others; with another one a length out of range panics here, and reads nothing.
 fn read_entry(entry: &[u8]) -> Answer<'_> {
     let (head, text) = entry.split_at(4);
     if head[0] == 1 {
@@ -114,7 +129,13 @@ fn read_entry(entry: &[u8]) -> Answer<'_> {
         };
     }
     let number = u32::from(head[0]);
-    Answer::Told(Notice::from_number(number).unwrap_or_else(|| not_the_archive(number)))
+    if let Some(notice) = Notice::from_number(number) {
+        return Answer::Told(notice);
+    }
+    // 15 to 19 are refusals of calls, which no line answers.
+    let refusal = Refusal::from_number(number).filter(|_| number <= 14);
+    let refusal = refusal.unwrap_or_else(|| not_the_archive(number));
+    Answer::Refused(Fault::told(refusal, usize::from(head[3])))
 }
 
 impl fmt::Debug for Round {

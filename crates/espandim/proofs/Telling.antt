@@ -1,12 +1,17 @@
 -- What an exported function tells, from what the function below it told, over plain variables.
 use mathlib.Core.Path.{_≡_, _∙_, sym, ap}
 use mathlib.Core.List.{List}
-use Prim.Native.Nat.{ℕ}
-use Rattle.characters.specs.Answers.{Answer}
+use Prim.Native.Nat.{ℕ, _≤_}
+use Rattle.characters.specs.Answers.{Answer, refused}
+use Rattle.groups.specs.Judging.{shown}
+use Rattle.groups.specs.Place.{judgement}
+use Rattle.groups.specs.Laws.Unknown.{judging-no-mode}
+use Rattle.groups.specs.Laws.Place.{others-told}
 use Rattle.groups.specs.Numbers.{numberOf, numberOfWriting}
 use Rattle.groups.specs.Writing.{Wrote}
 use Rattle.groups.specs.declared.Refusal.{Refusal}
-use Rattle.groups.specs.declared.Judged.{Judged}
+use Rattle.groups.specs.declared.Refusal.the-variants.{ModeUnknown}
+use Rattle.groups.specs.declared.Judgement.{Judgement}
 use Rattle.groups.specs.declared.Written.{Written}
 use Rattle.station.specs.Numbers as station
 use Rattle.station.specs.Memory.{Memory, stationIn}
@@ -43,8 +48,21 @@ round-told m n sheet sheet' told number d h =
       counts-are = ap (λ (r : Rounded). r .counts) (d .results) ∙ sym counts-are;
     }
 
-pub judges : (j k : Judged) (n : ℕ) → j ≡ k → n ≡ numberOf (j .verdict) → Judges k n (stretchesOf j)
-judges j k n e h = record { numbers = h ∙ ap (λ (i : Judged). numberOf (i .verdict)) e; stretch = ap stretchesOf e }
+pub judges : (j k : Judgement) (n : ℕ) → j ≡ k → n ≡ numberOf (j .judged .verdict)
+    → Judges k n (stretchesOf (j .judged)) (j .place)
+judges j k n e h =
+    record {
+      numbers = h ∙ ap (λ (i : Judgement). numberOf (i .judged .verdict)) e;
+      stretch = ap (λ (i : Judgement). stretchesOf (i .judged)) e;
+      places = ap (λ (i : Judgement). i .place) e;
+    }
+
+-- what is told of any content in a mode that there is not
+pub no-mode : (mode : ℕ) → 3 ≤ mode → (content : List ℕ)
+    → record { judged = shown (refused ModeUnknown); place = 0 } ≡ judgement mode content
+no-mode mode h content =
+    let a = judging-no-mode mode h content in
+    rw (a, others-told mode content (rw a tt) (rw a tt))
 
 -- a writing is also that of an equal answer
 pub wrote-for : (a b : Answer Refusal (List ℕ)) (before after : List ℕ) (r : Written) → a ≡ b → Wrote b before r after

@@ -5,7 +5,7 @@ use mathlib.Core.List.{List}
 use Prim.Native.Nat.{ℕ}
 use Rattle.characters.specs.Answers.{Answer}
 use Rattle.groups.specs.declared.Refusal.{Refusal}
-use Rattle.groups.specs.declared.Judged.{Judged}
+use Rattle.groups.specs.declared.Judgement.{Judgement}
 use Rattle.station.specs.Memory.{Memory, Sized}
 use Rattle.station.specs.Fixed.{fixed}
 use Rattle.station.specs.History.{Call}
@@ -27,10 +27,11 @@ rounds-equal m n n' sheet after after' counts counts' number other y z a b =
     (same-number, same-memory, a .sheet-is ∙ sym (b .sheet-is), a .counts-are ∙ sym (b .counts-are))
 
 -- `espandim_judge`
-pub judgings-equal : (j : Judged) (number other : ℕ) (stretches stretches' : List ℕ) → Judges j number stretches
-    → Judges j other stretches' → (number ≡ other) × (stretches ≡ stretches')
-judgings-equal j number other stretches stretches' a b =
-    (a .numbers ∙ sym (b .numbers), a .stretch ∙ sym (b .stretch))
+pub judgings-equal : (j : Judgement) (number other : ℕ) (stretches stretches' : List ℕ) (place place' : ℕ)
+    → Judges j number stretches place → Judges j other stretches' place'
+    → (number ≡ other) × (stretches ≡ stretches') × (place ≡ place')
+judgings-equal j number other stretches stretches' place place' a b =
+    (a .numbers ∙ sym (b .numbers), a .stretch ∙ sym (b .stretch), a .places ∙ sym (b .places))
 
 -- `espandim_write`
 pub writings-equal : (a : Answer Refusal (List ℕ)) (before after after' : List ℕ) (number other count count' : ℕ)

@@ -8,16 +8,18 @@ use Rattle.groups.specs.Numbers.{numberOf, numberOfWriting}
 use Rattle.groups.specs.Writing.{told, left}
 use Rattle.groups.specs.declared.Refusal.{Refusal}
 use Rattle.groups.specs.declared.Judged.{Judged}
+use Rattle.groups.specs.declared.Judgement.{Judgement}
 
 -- start and length of label, stamp and data: "shown label, stamp and data as stretches of its own bytes"
 abbrev pub stretchesOf : Judged → List ℕ
 stretchesOf j =
     j .label .start ∷ j .label .length ∷ j .stamp .start ∷ j .stamp .length ∷ j .«data» .start ∷ j .«data» .length ∷ []
 
--- what a judging hands back, the number and the six of the stretches, is that of what is shown
-pub record Judges (j : Judged) (number : ℕ) (stretches : List ℕ) : Type 0 where
-  pub numbers : number ≡ numberOf (j .verdict)
-  pub stretch : stretches ≡ stretchesOf j
+-- what a judging hands back, the number, the six of the stretches and the place, is that of what is told
+pub record Judges (j : Judgement) (number : ℕ) (stretches : List ℕ) (place : ℕ) : Type 0 where
+  pub numbers : number ≡ numberOf (j .judged .verdict)
+  pub stretch : stretches ≡ stretchesOf (j .judged)
+  pub places : place ≡ j .place
 
 -- what a writing hands back, the number and the count, and the lent buffer afterwards are those of an answer
 pub record Writes (a : Answer Refusal (List ℕ)) (before : List ℕ) (number : ℕ) (after : List ℕ) (count : ℕ)

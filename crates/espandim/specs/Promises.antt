@@ -8,6 +8,8 @@ use Prim.Native.Nat.{ℕ, _≤_, _<_}
 use lib.ListN.{length, replicate}
 use Rattle.groups.specs.Groups.{Group}
 use Rattle.groups.specs.Judging.{judging, shown}
+use Rattle.groups.specs.Place.{placeOf}
+use Rattle.groups.specs.Promises as groups
 use Rattle.groups.specs.Numbers.{numberOf, numberOfWriting}
 use Rattle.groups.specs.Writing.{writing, told, left}
 use Rattle.groups.specs.Laws.Unknown.{judging-no-mode, writing-no-mode}
@@ -78,13 +80,15 @@ pub round-no-sheet : (s : Station) (sheet : List ℕ) → length sheet < smalles
     → gets s (serves sheet) .number ≡ 18
 round-no-sheet s sheet h = rw (refusals.serves-round s sheet .1, refusals.turns-no-sheet s sheet h)
 
--- "Refused judging shows three empty stretches."
+-- "Refused judging shows three empty stretches"; 19 has no place
 pub judge-no-mode : (mode : ℕ) (content : List ℕ) → 3 ≤ mode
     → (numberOf (shown (judging mode content) .verdict) ≡ 19)
     × (stretchesOf (shown (judging mode content)) ≡ 0 ∷ 0 ∷ 0 ∷ 0 ∷ 0 ∷ 0 ∷ [])
+    × (placeOf mode content ≡ 0)
 judge-no-mode mode content h =
-    let e = ap shown (judging-no-mode mode h content) in
-    (ap (λ (j : Judged). numberOf (j .verdict)) e, ap stretchesOf e)
+    let a = judging-no-mode mode h content in
+    let e = ap shown a in
+    (ap (λ (j : Judged). numberOf (j .verdict)) e, ap stretchesOf e, groups.other-place mode content (rw a tt) (rw a tt))
 
 -- "Every refused writing changes no lent byte."
 pub write-no-mode : (mode : ℕ) (g : Group) (buffer : List ℕ) (room : ℕ) → 3 ≤ mode

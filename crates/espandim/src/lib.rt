@@ -6,6 +6,7 @@
 //
 // The station lies in four arrays of the caller's; `include/espandim.h` has them in one struct, and hands each of them in.
 use groups::Judged;
+use groups::Judgement;
 use groups::Outcome;
 use groups::Stretch;
 use groups::Verdict;
@@ -17,7 +18,7 @@ use station::Places;
 ghost use mathlib.Core.Path.{_≡_};
 ghost use lib.ListN.{length};
 ghost use Rattle.groups.specs.Groups.{groupOf};
-ghost use Rattle.groups.specs.Judging.{judging, shown};
+ghost use Rattle.groups.specs.Place.{judgement};
 ghost use Rattle.groups.specs.Writing.{writing, Wrote};
 ghost use Rattle.station.specs.History.{opens, delivers};
 ghost use Rattle.station.specs.Memory.{before, after};
@@ -88,8 +89,8 @@ pub extern "C" fn espandim_rows_round(
     station::number_of(reply) as u32
 }
 
-fn judged(mode: u32, content: &[u8]) -> Judged
-    ensures { λ r. ⌜ r ≡ shown (judging mode (now (content .entry))) ⌝ }
+fn judged(mode: u32, content: &[u8]) -> Judgement
+    ensures { λ r. ⌜ r ≡ judgement mode (now (content .entry)) ⌝ }
 {
     if mode < 256 {
         return groups::judge(mode as u8, content);
@@ -98,20 +99,31 @@ fn judged(mode: u32, content: &[u8]) -> Judged
         start: 0,
         length: 0,
     };
-    Judged {
-        verdict: Verdict::Refused(groups::Refusal::ModeUnknown),
-        label: nowhere,
-        stamp: nowhere,
-        data: nowhere,
+    Judgement {
+        judged: Judged {
+            verdict: Verdict::Refused(groups::Refusal::ModeUnknown),
+            label: nowhere,
+            stamp: nowhere,
+            data: nowhere,
+        },
+        place: 0,
     }
 }
 
-// Judges the content of one group, given alone, and shows where its label, stamp and data start, and their lengths.
+// Judges the content of one group, given alone; shows where its label, stamp and data start, and their lengths; and tells the
+// place where a refused stamp or refused data went wrong.
 #[no_mangle]
-pub extern "C" fn espandim_judge(mode: u32, content: &[u8], stretches: &mut [usize; 6]) -> u32
-    ensures { λ r. ⌜ Judges (shown (judging mode (now (content .entry)))) r (now (stretches .exit)) ⌝ }
+pub extern "C" fn espandim_judge(
+    mode: u32,
+    content: &[u8],
+    stretches: &mut [usize; 6],
+    place: &mut usize,
+) -> u32
+    ensures { λ r. ⌜ Judges (judgement mode (now (content .entry))) r (now (stretches .exit)) (now (place .exit)) ⌝ }
 {
-    let shown = judged(mode, content);
+    let judgement = judged(mode, content);
+    let shown = judgement.judged;
+    *place = judgement.place;
     let verdict = shown.verdict;
     let label = shown.label;
     let stamp = shown.stamp;

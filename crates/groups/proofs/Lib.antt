@@ -4,5 +4,6 @@ pub mod Walks
 pub mod Keys
 pub mod Search
 pub mod Pictures
+pub mod Telling
 pub mod Between
 pub mod Laying

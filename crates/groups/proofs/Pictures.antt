@@ -2,12 +2,12 @@
 -- one kind and one width.
 use mathlib.Core.Path.{_≡_, refl}
 use mathlib.Core.Bool.{Bool, true, false, _&&_}
-use mathlib.Core.List.{List}
+use mathlib.Core.List.{List, [], _∷_}
 use Prim.Native.Nat.{ℕ, suc, _+_, _-_, _<_, _≤_, max}
 use native.Mathlib.Numerals.{add-one}
 use native.Mathlib.Omega.{arith}
 use lib.Dec.{eqb, leb, not-T}
-use lib.ListN.{length, getD, drop, drop-of-length-le, length-drop, length-replicate}
+use lib.ListN.{length, getD, drop, drop-of-length-le, length-drop, replicate, length-replicate}
 use lib.Seq.{drop-cons, drop-drop}
 use borrow.Author.Tests.{eq-eqb, ne-eqb, le-leb, lt-leb}
 use Rattle.characters.specs.Answers.{every, pick, is-true, is-false}
@@ -15,11 +15,15 @@ use Rattle.groups.specs.Kinds.{ofKind}
 use Rattle.groups.specs.Forms.{Form, pictureOf, takes, lastOf, hasLength, fits, someFits}
 use Rattle.groups.specs.Formats.{formOf, forms}
 use Rattle.groups.specs.Fields.{widthRight, kindRight}
-use Rattle.groups.specs.Stored.{plainRule, formIn, formatAt, formatsFrom, agreed, reach, furthest}
+use Rattle.groups.specs.Place.{agreed, reach, furthest, firstWrong}
+use Rattle.groups.specs.Stored.{plainRule, formedRule, formIn, formatAt, formatsFrom}
+use Rattle.groups.specs.Inside.{wrongAt}
 use Rattle.groups.specs.Laws.Tests.{split}
-use Rattle.groups.specs.Laws.Forms.{some-reached, reached-some, run-end, match-run, or-false, append-none}
+use Rattle.groups.specs.Laws.Forms.{some-reached, reached-some, furthest-most, run-end, match-run, kind-takes, or-false, append-none}
 use Rattle.groups.specs.declared.table.Form.{Form as StoredForm}
+use Rattle.groups.specs.declared.table.Kind.{Kind}
 use Rattle.groups.specs.declared.table.Plain.{Plain}
+use Rattle.groups.specs.declared.table.Forms.{Forms}
 
 -- ---- A picture and data, from the front
 
@@ -89,6 +93,11 @@ module _ (first count : ℕ) (d : List ℕ) (i best : ℕ) where
 
 -- ---- One kind and one width
 
+agreed-run : (k : Kind) (d : List ℕ) → agreed (replicate (length d) (pictureOf k)) d ≡ wrongAt (ofKind k) d
+unfolding agreed wrongAt
+agreed-run k [] = refl
+agreed-run k (c ∷ d) = rw (kind-takes k c, agreed-run k d)
+
 module _ (p : Plain) (d : List ℕ) where
   pub plain-width : widthRight (plainRule p) (length d) ≡ eqb (length d) (p .width)
   unfolding widthRight
@@ -111,3 +120,37 @@ module _ (p : Plain) (d : List ℕ) where
         le-leb (length d) (length d) (omega arith),
         match-run (p .kind) d,
       ) (or-false (every (ofKind (p .kind)) d))
+
+  -- data of the width go wrong at the first character that is not of the kind, data of another at once
+  pub plain-wrong : length d ≡ p .width → firstWrong (plainRule p) d ≡ wrongAt (ofKind (p .kind)) d
+  unfolding firstWrong furthest reach hasLength formOf pick
+  plain-wrong e =
+      rw (
+        ← e,
+        append-none (length d) (pictureOf (p .kind)),
+        run-end (p .kind) (length d) (length d) (omega arith),
+        length-replicate (length d) (pictureOf (p .kind)),
+        le-leb (length d + 0) (length d) (omega arith),
+        le-leb (length d) (length d) (omega arith),
+        agreed-run (p .kind) d,
+      ) (omega arith)
+
+  pub plain-unfit : (length d ≡ p .width → ⊥) → firstWrong (plainRule p) d ≡ 0
+  unfolding firstWrong furthest reach hasLength formOf pick
+  plain-unfit n =
+      let most = length-replicate (p .width) (pictureOf (p .kind)) in
+      rw (append-none (p .width) (pictureOf (p .kind)), most)
+      (split (p .width + 0) (length d)
+      (λ h. split (length d) (p .width) (λ j. absurd (n (omega arith))) (λ j. rw (le-leb _ _ h, lt-leb _ _ j)))
+      (λ h. rw (lt-leb _ _ h)))
+
+-- ---- Where forms go wrong
+
+module _ (f : Forms) (d : List ℕ) where
+  pub formed-wrong : firstWrong (formedRule f) d ≡ furthest (forms (formatsFrom (f .first) (f .count))) d - 1
+  unfolding firstWrong
+  formed-wrong = refl
+
+  pub wrong-most : firstWrong (formedRule f) d ≤ length d
+  unfolding firstWrong
+  wrong-most = omega (arith, furthest-most (forms (formatsFrom (f .first) (f .count))) d)

@@ -10,7 +10,7 @@ use lib.ListN.{length, getD, take, drop, drop-of-length-le, length-drop, length-
 use lib.Seq.{drop-cons, getD-drop, take-add, take-all}
 use mir.Facts.{and-yes}
 use borrow.Author.Tests.{eq-eqb, ne-eqb, eqb-true, eqb-false}
-use Rattle.characters.specs.Answers.{every, every-at, from-true, is-true, pick}
+use Rattle.characters.specs.Answers.{every, every-at, from-true, is-true, pick, by-pick}
 use Rattle.characters.specs.Passing.{Pass}
 use Rattle.groups.specs.Kinds.{ofKind}
 use Rattle.groups.specs.Modes.{separator, countedAtEnd}
@@ -53,6 +53,14 @@ module _ (s : ℕ) (c : List ℕ) (i : ℕ) where
   pub first-over : length c ≤ i → firstAt s (drop i c) ≡ 0
   unfolding firstAt
   first-over h = rw (drop-of-length-le c h)
+
+-- the first that fails a test stands inside, or behind the last
+pub wrong-within : (f : ℕ → Bool) (c : List ℕ) → wrongAt f c ≤ length c
+unfolding wrongAt
+wrong-within f [] = omega arith
+wrong-within f (x ∷ c) =
+    let h = wrong-within f c in
+    by-pick (λ (n : ℕ). n ≤ suc (length c)) (f x) _ _ (λ t. omega arith) (λ t. omega arith)
 
 module _ (f : ℕ → Bool) (c : List ℕ) (i : ℕ) where
   pub wrong-here : i < length c → f (getD c i 0) ≡ false → wrongAt f (drop i c) ≡ 0

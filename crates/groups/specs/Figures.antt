@@ -18,11 +18,14 @@ use Rattle.groups.specs.Cuts.{cut, ending}
 use Rattle.groups.specs.Groups.{check, parts, fieldsOf, behindLabel, read}
 use Rattle.groups.specs.Numbers.{numberOf}
 use Rattle.groups.specs.Judging.{judging, shown}
+use Rattle.groups.specs.Conditions.{firstAt, labelOf, bodyOf, dataIn}
+use Rattle.groups.specs.Place.{agreed, reach, furthest, firstWrong, placeFor, placeBy, placeOf}
 use Rattle.groups.specs.declared.table.Mark.the-variants.{Letter}
 
--- a mode's number, a content and its answer; a stamp, right or not; a wire byte, sound or not
+-- a mode's number, a content and its answer, or its place; a stamp, right or not; a wire byte, sound or not
 pub data Figure : Type 0 where
   group : ℕ → String → ℕ → Figure
+  place : ℕ → String → ℕ → Figure
   stamp : String → Bool → Figure
   wireByte : ℕ → Bool → Figure
 
@@ -47,6 +50,7 @@ figures =
 -- what the definitions say of a figure is what document 01 says
 abbrev pub Holds : Figure → Type 0
 Holds (group number text answer) = numberOf (shown (judging number (codes text)) .verdict) ≡ answer
+Holds (place number text at) = placeOf number (codes text) ≡ at
 Holds (stamp text right) = stampRight Letter (codes text) ≡ right
 Holds (wireByte byte sound) = isSound byte ≡ sound
 
@@ -106,3 +110,34 @@ laterFigures =
 pub later-figures-hold : AllHold laterFigures
 unfolding judging modeOf read behindLabel fieldsOf checked widthRight kindRight someFits fits hasLength matches takes formOf lookup check parts stampAs dateRight daysIn need found pick cut ending standardRows
 later-figures-hold = (refl, (refl, (refl, (refl, (refl, (refl, (refl, (refl, (refl, tt)))))))))
+
+-- M-104 names no figures; these are contents whose places were counted by hand. Mode 1: a wrong character, the first of two, a stamp
+-- that is missing, one that is empty, the first of two wrong characters behind a stamp. Mode 0: the last character. Mode 2: where one
+-- form gets further than another, a length that no form has, the last character of a text, and the third and the last where two texts
+-- are told by their length. Then accepted data, 13, 11 and 19, which have none.
+abbrev pub places : List Figure
+places =
+    place 1 "STGE\t003a0001\tZ" 8 ∷
+    place 1 "STGE\t0g3a0001\tQ" 6 ∷
+    place 1 "SMAXSN\t01200\t?" 7 ∷
+    place 1 "DATE\t\tP" 5 ∷
+    place 1 "SMAXSN\tH081225223518\t0x20y\tG" 22 ∷
+    place 0 "PAPP 0075a ^" 9 ∷
+    place 0 "HCHC 01234567x *" 13 ∷
+    place 2 "PA1_s 123456kW K" 11 ∷
+    place 2 "PS 36kVW $" 7 ∷
+    place 2 "TGPHI_s 12-,34 1" 10 ∷
+    place 2 "TARIFDYN NACTIF V" 9 ∷
+    place 2 "TARIFDYN INACTIV /" 15 ∷
+    place 2 "CONFIG PRODU @" 7 ∷
+    place 2 "CONFIG CONSU >" 11 ∷
+    place 1 "URMS1\t230\t?" 0 ∷
+    place 1 "URMS1\t23\tO" 0 ∷
+    place 1 "URMS9\t230\tG" 0 ∷
+    place 3 "PREAVIS EJP 9" 0 ∷
+    []
+
+pub places-hold : AllHold places
+unfolding placeOf placeBy placeFor firstWrong furthest reach agreed firstAt labelOf bodyOf dataIn judging modeOf read behindLabel fieldsOf checked widthRight kindRight someFits fits hasLength matches takes formOf lookup check parts stampAs dateRight daysIn need found pick cut ending historicRows standardRows businessRows
+places-hold =
+    (refl, (refl, (refl, (refl, (refl, (refl, (refl, (refl, (refl, (refl, (refl, (refl, (refl, (refl, (refl, (refl, (refl, (refl, tt))))))))))))))))))

@@ -13,15 +13,19 @@ use Rattle.groups.specs.Modes.{separator, countedAtEnd}
 use Rattle.groups.specs.Formats.{Rule}
 use Rattle.groups.specs.Stamps.{isStamped, stampRight}
 use Rattle.groups.specs.Fields.{longest, widthRight, kindRight, checked}
-use Rattle.groups.specs.Groups.{Group, groupOf, content, body, total, fieldsOf}
-use Rattle.groups.specs.Conditions.{firstAt}
-use Rattle.groups.specs.Judging.{stampSpan}
+use Rattle.groups.specs.Groups.{Group, groupOf, content, body, total, fieldsOf, behindLabel, read}
+use Rattle.groups.specs.Table.{lookup, rows}
+use Rattle.groups.specs.Numbers.{numberOf}
+use Rattle.groups.specs.Conditions.{firstAt, labelOf, bodyOf}
+use Rattle.groups.specs.Judging.{shown, stampSpan}
+use Rattle.groups.specs.Place.{firstWrong, nextPlace, wrongPlace, placeFor}
 use Rattle.groups.specs.Writing.{into}
 use Rattle.groups.specs.declared.Mode.{Mode}
 use Rattle.groups.specs.declared.Refusal.{Refusal}
 use Rattle.groups.specs.declared.Refusal.the-variants.{StampWrong}
 use Rattle.groups.specs.declared.reading.Parted.{Parted}
 use Rattle.groups.specs.declared.reading.Parted.the-variants.{At, Unparted}
+use Rattle.groups.specs.declared.Judgement.{Judgement}
 use Rattle.groups.specs.declared.Verdict.{Verdict}
 use Rattle.groups.specs.declared.Verdict.the-variants.{Accepted, Refused}
 use Rattle.groups.specs.declared.modes.Chosen.{Chosen}
@@ -40,6 +44,46 @@ verdictOf (given a) = Accepted
 -- what a rule says of stamp and data
 abbrev pub fitness : Rule → List ℕ → List ℕ → Verdict
 fitness rule stamp d = verdictOf (checked rule stamp d d)
+
+-- how many characters a stamp and the separator behind it take, where the label has one
+abbrev pub stampRoom : Bool → ℕ
+stampRoom b = pick b 14 0
+
+-- ---- What is told: an answer, and the place of its number
+
+abbrev pub refusedAt : Refusal → ℕ → Judgement
+refusedAt refusal place = record { judged = shown (refused refusal); place = place }
+
+abbrev pub acceptedAs : Group → Judgement
+acceptedAs g = record { judged = shown (given g); place = 0 }
+
+-- `next` is the place after the label's separator, `wrong` that of the first wrong data character
+abbrev pub toldAt : Answer Refusal Group → ℕ → ℕ → Judgement
+toldAt a next wrong = record { judged = shown a; place = placeFor (numberOf (shown a .verdict)) next wrong }
+
+-- the first wrong data character behind a stamp
+abbrev pub wrongBehind : Rule → ℕ → List ℕ → List ℕ → ℕ
+wrongBehind rule next stamp d = next + stampSpan (length stamp) + firstWrong rule d
+
+-- of a label's fields
+abbrev pub finished : Rule → List ℕ → List ℕ → List ℕ → Judgement
+finished rule label stamp d =
+    toldAt (checked rule stamp d (groupOf label stamp d)) (length label + 1) (wrongBehind rule (length label + 1) stamp d)
+
+-- of a label with its rule, and a body
+abbrev pub toldOf : Mode → Rule → List ℕ → List ℕ → Judgement
+toldOf m rule label b = toldAt (fieldsOf m rule label b) (length label + 1) (wrongPlace (length label + 1) b (some rule))
+
+-- of a label and what stands behind its separator
+abbrev pub toldBehind : Mode → List ℕ → List ℕ → Judgement
+toldBehind m label rest =
+    toldAt (behindLabel m label rest) (length label + 1)
+    (wrongPlace (length label + 1) (take (length rest - 2) rest) (lookup label (rows m)))
+
+-- of a content
+abbrev pub judgedIn : Mode → List ℕ → Judgement
+judgedIn m c =
+    toldAt (read m c) (nextPlace m c) (wrongPlace (nextPlace m c) (bodyOf m c) (lookup (labelOf m c) (rows m)))
 
 -- ---- Walks
 
@@ -70,6 +114,7 @@ abbrev pub Split : Mode → Rule → List ℕ → Parted → Type 0
 Split m rule b (At end) =
     (end ≤ length b)
     × (stampSpan end ≤ length b)
+    × (stampSpan end ≡ stampRoom (isStamped (rule .mark)))
     × ((label : List ℕ) → fieldsOf m rule label b
     ≡ checked rule (take end b) (drop (stampSpan end) b) (groupOf label (take end b) (drop (stampSpan end) b)))
 Split m rule b Unparted = (label : List ℕ) → fieldsOf m rule label b ≡ refused StampWrong
@@ -94,9 +139,6 @@ pub record StartsWith (label c : List ℕ) : Type 0 where
 pub record Laid (b₀ : List ℕ) (at : ℕ) (w : List ℕ) (n : ℕ) (b : List ℕ) : Type 0 where
   pub upto : n ≡ at + length w
   pub bytes : b ≡ sets b₀ at w
-
-abbrev pub stampRoom : Bool → ℕ
-stampRoom b = pick b 14 0
 
 -- the content of any group of this label and rule has at most 128 characters
 abbrev pub ShortRow : Rule → List ℕ → Type 0

@@ -24,3 +24,5 @@ pub mod Writer
 pub mod Written
 pub mod Seasons
 pub mod Business
+pub mod FirstWrong
+pub mod Place

@@ -14,6 +14,8 @@ pub mod Writing
 pub mod Spelled
 pub mod Made
 pub mod Conditions
+pub mod Place
+pub mod FirstWrong
 pub mod WriterConditions
 pub mod Stretches
 pub mod Order

@@ -1,18 +1,18 @@
 -- What the crate promises of judging and writing groups: only the statements need to be read.
 use mathlib.Core.Path.{_≡_, refl}
 use mathlib.Core.Logic.{_↔_}
-use mathlib.Core.Bool.{not}
+use mathlib.Core.Bool.{not, _||_}
 use mathlib.Core.Option.{none, some}
 use mathlib.Core.List.{List, [], _∷_, _++_, map, List·Memᴰ}
 use Prim.Native.Nat.{ℕ, _+_, _^_, _≤_, _<_}
 use lib.Dec.{T, eqb, ltb}
-use lib.ListN.{length, getD}
+use lib.ListN.{length, take, getD}
 use Rattle.characters.specs.Answers.{given, every, firstOf}
 use Rattle.characters.specs.Wire.{isSound, wireByteOf, HT}
-use Rattle.groups.specs.Modes.{modeOf, isMode}
+use Rattle.groups.specs.Modes.{modeOf, isMode, separator}
 use Rattle.groups.specs.Kinds.{ofKind}
 use Rattle.groups.specs.Forms.{someFits}
-use Rattle.groups.specs.Formats.{Rule, forms}
+use Rattle.groups.specs.Formats.{Rule, Field, forms}
 use Rattle.groups.specs.Table.{Entry, rows, plain, lookup}
 use Rattle.groups.specs.Order.{before, Before, inOrder, halving}
 use Rattle.groups.specs.Packed.{keyOf}
@@ -21,7 +21,9 @@ use Rattle.groups.specs.Groups.{Group, groupOf}
 use Rattle.groups.specs.Numbers.{numberOfRefusal, numberOf, numberOfWriting}
 use Rattle.groups.specs.Judging.{judging, shown, partOf, partStart, Shows}
 use Rattle.groups.specs.Writing.{onTheWire, offTheWire, composing, writing, told, left}
-use Rattle.groups.specs.Conditions.{givenWhen}
+use Rattle.groups.specs.Conditions.{labelOf, givenWhen}
+use Rattle.groups.specs.Place.{firstWrong, placeOf}
+use Rattle.groups.specs.FirstWrong.{Begun, FirstWrong, WrongDataAt}
 use Rattle.groups.specs.WriterConditions.{writtenWhen, countDue, Leaves, bytesOf}
 use Rattle.groups.specs.Stretches.{sixNumbers, stretchesDue}
 use Rattle.groups.specs.Spelled.{among, spelled}
@@ -59,6 +61,8 @@ use Rattle.groups.specs.Laws.Writer.{written-first}
 use Rattle.groups.specs.Laws.Written.{written-counted, written-left}
 use Rattle.groups.specs.Laws.Business.{row-made, row-lengths, plain-made, never-twelve, stamp-refused}
 use Rattle.groups.specs.Laws.Seasons.{degraded-told, degraded-judged, peak-told, peak-judged}
+use Rattle.groups.specs.Laws.FirstWrong.{row-wrong, before-begun, length-unknown, kind-wrong}
+use Rattle.groups.specs.Laws.Place.{stamp-told, data-told, others-told, inside-told, placed-small}
 use Rattle.groups.specs.declared.Mode.{Mode}
 use Rattle.groups.specs.declared.Mode.the-variants.{Standard, Business}
 use Rattle.groups.specs.declared.Refusal.{Refusal}
@@ -195,6 +199,57 @@ pub numbers-exactly : (refusal : Refusal)
     → (numberOf (verdict.Refused refusal) ≡ numberOfRefusal refusal)
     × (numberOfWriting (outcome.Refused refusal) ≡ numberOfRefusal refusal)
 numbers-exactly refusal = (refl, refl)
+
+-- Document 02, M-104: "Let judging a group also tell a place in the content, counted from 0". For 12 it is "the first character
+-- after the label's separator": what stands before it is the label and its separator.
+pub stamp-place : (number : ℕ) (m : Mode) → modeOf number ≡ some m → (c : List ℕ)
+    → numberOf (shown (judging number c) .verdict) ≡ 12 → take (placeOf number c) c ≡ labelOf m c ++ separator m ∷ []
+stamp-place = stamp-told
+
+-- "for 14 the first wrong data character (mode 2: the first that no fitting data of that length have there after the same
+-- beginning)": one sentence for all modes, since a row of modes 0 and 1 is the case of one field.
+pub data-place : (number : ℕ) (m : Mode) → modeOf number ≡ some m → (c : List ℕ)
+    → numberOf (shown (judging number c) .verdict) ≡ 14 → WrongDataAt m c (placeOf number c)
+data-place = data-told
+
+-- "for all others 0"
+pub other-place : (number : ℕ) (c : List ℕ)
+    → T (not (eqb (numberOf (shown (judging number c) .verdict)) 12))
+    → T (not (eqb (numberOf (shown (judging number c) .verdict)) 14))
+    → placeOf number c ≡ 0
+other-place = others-told
+
+-- The place of 12 and of 14 lies inside the content, in front of the check character; and it fits a byte.
+pub place-inside : (number : ℕ) (m : Mode) → modeOf number ≡ some m → (c : List ℕ)
+    → T (eqb (numberOf (shown (judging number c) .verdict)) 12 || eqb (numberOf (shown (judging number c) .verdict)) 14)
+    → placeOf number c + 2 ≤ length c
+place-inside = inside-told
+
+pub place-small : (number : ℕ) (c : List ℕ) → placeOf number c < 128
+place-small = placed-small
+
+-- In data that are long enough for a row and don't fit it, the definition finds the first wrong character, and no other.
+pub first-wrong-exactly : (m : Mode) (label : List ℕ) (rule : Rule) → List·Memᴰ (record { label = label; rule = rule }) (rows m)
+    → (d : List ℕ) → rule .smallest ≤ length d → T (not (someMade (rule .formats) d))
+    → (i : ℕ) → (firstWrong rule d ≡ i) ↔ FirstWrong (rule .formats) d i
+first-wrong-exactly = row-wrong
+
+-- Where a row has one kind and one width: each data character before it is of the kind, and the one there is not.
+pub wrong-kind-exactly : (kind : Kind) (width : ℕ) (d : List ℕ) → length d ≡ width → (i : ℕ)
+    → FirstWrong (plain kind width) d i
+    ↔ ((i < length d)
+    × ((k : ℕ) → k < i → T (among (spelled kind) (getD d k 0)))
+    × T (not (among (spelled kind) (getD d i 0))))
+wrong-kind-exactly = kind-wrong
+
+-- Where fitting data have this length, some begin with all that stands before it; where none have, it is the first character.
+pub beginning-fits : (formats : List (List Field)) (d : List ℕ) (i : ℕ) → FirstWrong formats d i
+    → (other : List ℕ) → length other ≡ length d → T (someMade formats other) → Begun formats d i
+beginning-fits = before-begun
+
+pub no-such-length : (formats : List (List Field)) (d : List ℕ) (i : ℕ) → FirstWrong formats d i
+    → ((other : List ℕ) → length other ≡ length d → T (not (someMade formats other))) → i ≡ 0
+no-such-length = length-unknown
 
 -- The stretches that judging shows of an accepted content are its label, its stamp and its data.
 pub fields-shown : (number : ℕ) (c : List ℕ) (g : Group) → judging number c ≡ given g

@@ -2,11 +2,11 @@
 -- of private functions cite this; that the stored forms are those of `Table.antt` is computed in the proof of `form_of`.
 use mathlib.Core.Option.{Option, none, some}
 use mathlib.Core.List.{List, [], _∷_, _++_}
-use Prim.Native.Nat.{ℕ, zero, suc, _+_, _<_, _≤_, max}
+use Prim.Native.Nat.{ℕ, zero, suc, _+_, _<_, _≤_}
 use lib.Dec.{eqb}
 use lib.ListN.{length, getD}
 use Rattle.characters.specs.Answers.{pick}
-use Rattle.groups.specs.Forms.{Form, takes, lastOf, hasLength}
+use Rattle.groups.specs.Forms.{Form, lastOf}
 use Rattle.groups.specs.Formats.{Field, run, Rule}
 use Rattle.groups.specs.Table.{
   plain,
@@ -98,22 +98,6 @@ ruleOf (stored.Formed f) = formedRule f
 abbrev pub ruleFound : Found → Option Rule
 ruleFound Unlisted = none
 ruleFound (Listed r) = some (ruleOf r)
-
--- ---- How far data get in forms
-
--- how many characters of data, from the first on, a picture takes
-unfoldable pub agreed : List ℕ → List ℕ → ℕ
-agreed [] d = 0
-agreed (p ∷ picture) [] = 0
-agreed (p ∷ picture) (c ∷ d) = pick (takes p c) (suc (agreed picture d)) 0
-
--- 0 where the form has not their length, else one more than its picture takes of them
-unfoldable pub reach : Form → List ℕ → ℕ
-reach f d = pick (hasLength f (length d)) (suc (agreed (lastOf (length d) (f .picture)) d)) 0
-
-unfoldable pub furthest : List Form → List ℕ → ℕ
-furthest [] d = 0
-furthest (f ∷ more) d = max (reach f d) (furthest more d)
 
 -- ---- Data between two texts
 

@@ -19,7 +19,7 @@ ghost use Rattle.groups.specs.Kinds.{ofKind};
 ghost use Rattle.groups.specs.Forms.{takes};
 ghost use Rattle.groups.specs.Formats.{forms as formsOf};
 ghost use Rattle.groups.specs.Stored.{plainRule, formedRule, ruleOf, formIn, formatsFrom};
-ghost use Rattle.groups.specs.Stored.{agreed as agreedOf, reach as reachOf, furthest as furthestOf};
+ghost use Rattle.groups.specs.Place.{agreed as agreedOf, reach as reachOf, furthest as furthestOf, firstWrong};
 ghost use Rattle.groups.specs.Inside.{RightUpTo, wrongAt, fitness};
 
 pub(crate) fn of_kind(kind: Kind, code: u8) -> bool
@@ -221,5 +221,38 @@ pub(crate) fn fit(rule: Rule, stamp: &[u8], data: &[u8]) -> Verdict
     match rule {
         Rule::Plain(plain) => fit_plain(plain, stamp, data),
         Rule::Formed(forms) => fit_forms(forms, stamp, data),
+    }
+}
+
+// How many characters of data of one kind and one width stand before the first wrong one.
+fn wrong_plain(rule: Plain, data: &[u8]) -> usize
+    ensures { λ r. ⌜ (r ≡ firstWrong (plainRule rule) (now («data» .entry))) × (r ≤ length (now («data» .entry))) ⌝ }
+{
+    let width = rule.width;
+    let kind = rule.kind;
+    if data.len() == width {
+        return wrong_at(kind, data);
+    }
+    0
+}
+
+// The same for data that have forms: those that they get through in the form in which they get furthest.
+fn wrong_formed(forms: Forms, data: &[u8]) -> usize
+    ensures { λ r. ⌜ (r ≡ firstWrong (formedRule forms) (now («data» .entry))) × (r ≤ length (now («data» .entry))) ⌝ }
+{
+    let reached = furthest(forms, data);
+    if reached == 0 {
+        return 0;
+    }
+    reached - 1
+}
+
+// How many data characters stand before the first wrong one, in data that a rule does not take (M-104).
+pub(crate) fn first_wrong(rule: Rule, data: &[u8]) -> usize
+    ensures { λ r. ⌜ (r ≡ firstWrong (ruleOf rule) (now («data» .entry))) × (r ≤ length (now («data» .entry))) ⌝ }
+{
+    match rule {
+        Rule::Plain(plain) => wrong_plain(plain, data),
+        Rule::Formed(forms) => wrong_formed(forms, data),
     }
 }

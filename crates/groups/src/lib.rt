@@ -13,6 +13,7 @@ ghost use lib.ListN.{length};
 ghost use Rattle.groups.specs.Modes.{isMode};
 ghost use Rattle.groups.specs.Groups.{groupOf};
 ghost use Rattle.groups.specs.Judging.{judging, shown, Part};
+ghost use Rattle.groups.specs.Place.{placeOf};
 ghost use Rattle.groups.specs.Numbers.{numberOf, numberOfRefusal, numberOfWriting};
 ghost use Rattle.groups.specs.Writing.{writing, Wrote};
 
@@ -54,6 +55,13 @@ pub struct Judged {
     pub data: Stretch,
 }
 
+// What judging tells: what it shows, and the place in the content, counted from 0, where a refused stamp or refused data
+// went wrong (M-104); 0 where the verdict is another.
+pub struct Judgement {
+    pub judged: Judged,
+    pub place: usize,
+}
+
 pub enum Outcome {
     Done,
     Refused(Refusal),
@@ -77,13 +85,13 @@ pub fn is_mode(number: u8) -> bool
 }
 
 // Judges the content of one group, given alone, in the mode of this number.
-pub fn judge(mode: u8, content: &[u8]) -> Judged
-    ensures { λ r. ⌜ r ≡ shown (judging mode (now (content .entry))) ⌝ }
+pub fn judge(mode: u8, content: &[u8]) -> Judgement
+    ensures { λ r. ⌜ r ≡ record { judged = shown (judging mode (now (content .entry))); place = placeOf mode (now (content .entry)) } ⌝ }
 {
     let chosen = modes::mode_of(mode);
     match chosen {
         modes::Chosen::Known(known) => reading::read(known, content),
-        modes::Chosen::Unknown => reading::refuse(Refusal::ModeUnknown),
+        modes::Chosen::Unknown => reading::refuse(Refusal::ModeUnknown, 0),
     }
 }
 

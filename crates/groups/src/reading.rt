@@ -1,5 +1,6 @@
 // The reader: tests in document 01's order, each over a part of the content.
 use crate::Judged;
+use crate::Judgement;
 use crate::Mode;
 use crate::Refusal;
 use crate::Stretch;
@@ -13,13 +14,14 @@ use crate::table::Rule;
 ghost use mathlib.Core.Path.{_≡_};
 ghost use Prim.Native.Nat.{_+_, _%_, _≤_};
 ghost use lib.ListN.{length};
-ghost use Rattle.characters.specs.Answers.{refused, given};
-ghost use Rattle.groups.specs.Fields.{checked};
 ghost use Rattle.groups.specs.Modes.{countedAtEnd};
-ghost use Rattle.groups.specs.Groups.{total, groupOf, fieldsOf, behindLabel, read as readOf};
-ghost use Rattle.groups.specs.Judging.{shown, stampSpan, stampStretch};
+ghost use Rattle.groups.specs.Groups.{total, groupOf};
+ghost use Rattle.groups.specs.Judging.{stampSpan, stampStretch};
+ghost use Rattle.groups.specs.Numbers.{numberOfRefusal};
+ghost use Rattle.groups.specs.Place.{placeFor};
 ghost use Rattle.groups.specs.Stored.{ruleOf};
 ghost use Rattle.groups.specs.Inside.{checkFrom, ContentWalk, FrontSum, LabelWalk, Split, StartsWith};
+ghost use Rattle.groups.specs.Inside.{acceptedAs, finished, judgedIn, refusedAt, toldBehind, toldOf, wrongBehind};
 
 // The sum of the codes.
 pub(crate) fn sum(text: &[u8]) -> u32
@@ -97,23 +99,27 @@ pub(crate) fn check_from(mode: Mode, label: &[u8], rest: u32) -> u8
     check_by(mode, sum(label) + separator + rest)
 }
 
-pub(crate) fn refuse(refusal: Refusal) -> Judged
-    ensures { λ r. ⌜ r ≡ shown (refused refusal) ⌝ }
+// A refusal, and the place that is told with it.
+pub(crate) fn refuse(refusal: Refusal, place: usize) -> Judgement
+    ensures { λ r. ⌜ r ≡ refusedAt refusal place ⌝ }
 {
-    Judged {
-        verdict: Verdict::Refused(refusal),
-        label: Stretch {
-            start: 0,
-            length: 0,
+    Judgement {
+        judged: Judged {
+            verdict: Verdict::Refused(refusal),
+            label: Stretch {
+                start: 0,
+                length: 0,
+            },
+            stamp: Stretch {
+                start: 0,
+                length: 0,
+            },
+            data: Stretch {
+                start: 0,
+                length: 0,
+            },
         },
-        stamp: Stretch {
-            start: 0,
-            length: 0,
-        },
-        data: Stretch {
-            start: 0,
-            length: 0,
-        },
+        place,
     }
 }
 
@@ -143,34 +149,59 @@ fn stamp_stretch(next: usize, length: usize) -> Stretch
     }
 }
 
-// Where the fields of an accepted group stand.
-fn place(label: &[u8], stamp: &[u8], data: &[u8]) -> Judged
-    ensures { λ r. ⌜ r ≡ shown (given (groupOf (now (label .entry)) (now (stamp .entry)) (now («data» .entry)))) ⌝ }
+// Where the fields of an accepted group stand; its place is 0.
+fn accept(label: &[u8], stamp: &[u8], data: &[u8]) -> Judgement
+    ensures { λ r. ⌜ r ≡ acceptedAs (groupOf (now (label .entry)) (now (stamp .entry)) (now («data» .entry))) ⌝ }
 {
     let next = label.len() + 1;
     let span = stamp_span(stamp.len());
-    Judged {
-        verdict: Verdict::Accepted,
-        label: Stretch {
-            start: 0,
-            length: label.len(),
+    Judgement {
+        judged: Judged {
+            verdict: Verdict::Accepted,
+            label: Stretch {
+                start: 0,
+                length: label.len(),
+            },
+            stamp: stamp_stretch(next, stamp.len()),
+            data: Stretch {
+                start: next + span,
+                length: data.len(),
+            },
         },
-        stamp: stamp_stretch(next, stamp.len()),
-        data: Stretch {
-            start: next + span,
-            length: data.len(),
-        },
+        place: 0,
     }
 }
 
+// The place that a refusal of stamp or data tells: `next` is that of the first character after the label's separator. Only
+// refused data are gone over again, so an accepted group pays nothing for it.
+fn wrong_place(refusal: Refusal, rule: Rule, next: usize, stamp: &[u8], data: &[u8]) -> usize
+    requires { ⌜ next ≤ 129 ⌝ }
+    ensures { λ r. ⌜ r ≡ placeFor (numberOfRefusal refusal) next (wrongBehind (ruleOf rule) next (now (stamp .entry)) (now («data» .entry))) ⌝ }
+{
+    let number = crate::refusal_number(refusal);
+    if number == 12 {
+        return next;
+    }
+    if number == 14 {
+        let span = stamp_span(stamp.len());
+        let before = fields::first_wrong(rule, data);
+        return next + span + before;
+    }
+    0
+}
+
 // The group of these fields, if its rule takes them.
-fn finish(rule: Rule, label: &[u8], stamp: &[u8], data: &[u8]) -> Judged
-    ensures { λ r. ⌜ r ≡ shown (checked (ruleOf rule) (now (stamp .entry)) (now («data» .entry)) (groupOf (now (label .entry)) (now (stamp .entry)) (now («data» .entry)))) ⌝ }
+fn finish(rule: Rule, label: &[u8], stamp: &[u8], data: &[u8]) -> Judgement
+    requires { ⌜ length (now label) ≤ 128 ⌝ }
+    ensures { λ r. ⌜ r ≡ finished (ruleOf rule) (now (label .entry)) (now (stamp .entry)) (now («data» .entry)) ⌝ }
 {
     let fitness = fields::fit(rule, stamp, data);
     match fitness {
-        Verdict::Refused(refusal) => refuse(refusal),
-        Verdict::Accepted => place(label, stamp, data),
+        Verdict::Refused(refusal) => {
+            let at = wrong_place(refusal, rule, label.len() + 1, stamp, data);
+            refuse(refusal, at)
+        }
+        Verdict::Accepted => accept(label, stamp, data),
     }
 }
 
@@ -198,8 +229,9 @@ fn stamp_end(mode: Mode, rule: Rule, body: &[u8]) -> Parted
 
 // The fields of a label with this rule and a body, the characters between the first separator and the final one. `finish`
 // is called in one place, so that the compiler puts it there and passes nothing through memory.
-fn fields_of(mode: Mode, rule: Rule, label: &[u8], body: &[u8]) -> Judged
-    ensures { λ r. ⌜ r ≡ shown (fieldsOf mode (ruleOf rule) (now (label .entry)) (now (body .entry))) ⌝ }
+fn fields_of(mode: Mode, rule: Rule, label: &[u8], body: &[u8]) -> Judgement
+    requires { ⌜ length (now label) ≤ 128 ⌝ }
+    ensures { λ r. ⌜ r ≡ toldOf mode (ruleOf rule) (now (label .entry)) (now (body .entry)) ⌝ }
 {
     let parted = stamp_end(mode, rule, body);
     match parted {
@@ -207,49 +239,49 @@ fn fields_of(mode: Mode, rule: Rule, label: &[u8], body: &[u8]) -> Judged
             let span = stamp_span(end);
             finish(rule, label, &body[..end], &body[span..])
         }
-        Parted::Unparted => refuse(Refusal::StampWrong),
+        Parted::Unparted => refuse(Refusal::StampWrong, label.len() + 1),
     }
 }
 
 // A content, its label, all that stands behind the separator of the label, and the sum of all but the last two of these
 // characters. The label is looked up in the content, so that its first eight bytes can be taken at once.
-fn behind_label(mode: Mode, content: &[u8], label: &[u8], rest: &[u8], front: u32) -> Judged
-    requires { ⌜ (FrontSum mode (now label) (now rest) front) × (StartsWith (now label) (now content)) ⌝ }
-    ensures { λ r. ⌜ r ≡ shown (behindLabel mode (now (label .entry)) (now (rest .entry))) ⌝ }
+fn behind_label(mode: Mode, content: &[u8], label: &[u8], rest: &[u8], front: u32) -> Judgement
+    requires { ⌜ (FrontSum mode (now label) (now rest) front) × (StartsWith (now label) (now content)) × (length (now label) ≤ 128) ⌝ }
+    ensures { λ r. ⌜ r ≡ toldBehind mode (now (label .entry)) (now (rest .entry)) ⌝ }
 {
     let n = rest.len();
     if n < 2 {
-        return refuse(Refusal::Misshapen);
+        return refuse(Refusal::Misshapen, 0);
     }
     let end = n - 2;
     if rest[end] != modes::separator_of(mode) {
-        return refuse(Refusal::Misshapen);
+        return refuse(Refusal::Misshapen, 0);
     }
     let body = &rest[..end];
     if rest[n - 1] != check_by(mode, front) {
-        return refuse(Refusal::CheckWrong);
+        return refuse(Refusal::CheckWrong, 0);
     }
     let found = find::find(mode, content, label.len());
     match found {
         Found::Listed(rule) => fields_of(mode, rule, label, body),
-        Found::Unlisted => refuse(Refusal::LabelUnknown),
+        Found::Unlisted => refuse(Refusal::LabelUnknown, 0),
     }
 }
 
-pub(crate) fn read(mode: Mode, content: &[u8]) -> Judged
-    ensures { λ r. ⌜ r ≡ shown (readOf mode (now (content .entry))) ⌝ }
+pub(crate) fn read(mode: Mode, content: &[u8]) -> Judgement
+    ensures { λ r. ⌜ r ≡ judgedIn mode (now (content .entry)) ⌝ }
 {
     let n = content.len();
     if 128 < n {
-        return refuse(Refusal::TooLong);
+        return refuse(Refusal::TooLong, 0);
     }
     let walked = walk(content, modes::separator_of(mode));
     let at = walked.first;
     if n <= at {
-        return refuse(Refusal::Misshapen);
+        return refuse(Refusal::Misshapen, 0);
     }
     if at < 1 {
-        return refuse(Refusal::Misshapen);
+        return refuse(Refusal::Misshapen, 0);
     }
     let next = at + 1;
     behind_label(mode, content, &content[..at], &content[next..], walked.sum)

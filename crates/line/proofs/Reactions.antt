@@ -3,14 +3,16 @@ use mathlib.Core.Path.{_≡_, sym, ap, _∙_}
 use mathlib.Core.Bool.{Bool, true, false}
 use mathlib.Core.List.{List}
 use Prim.Native.Nat.{ℕ, _+_, _≤_, _<_}
-use lib.ListN.{set}
+use lib.ListN.{take, set}
 use borrow.Author.Tests.{lt-ltb, le-ltb}
 use Rattle.characters.specs.Answers.{pick}
 use Rattle.characters.specs.Wire.{wireByteOf, CR}
 use Rattle.line.specs.Symbols.{symbolOf}
 use Rattle.line.specs.Rules.{move}
 use Rattle.line.specs.State.{stateOf}
-use Rattle.line.specs.Steps.{heardOf, endedOf, quietOf, After, acted, Stepped}
+use Rattle.groups.specs.Place.{judgement}
+use Rattle.groups.specs.declared.Judgement.{Judgement}
+use Rattle.line.specs.Steps.{heardFrom, heardOf, endedOf, quietOf, After, acted, Stepped}
 use Rattle.line.specs.Laws.Written.{cr-symbol}
 use Rattle.line.specs.declared.LineState.{LineState}
 use Rattle.line.specs.declared.Notice.{Notice}
@@ -68,3 +70,9 @@ module _ (mode n : ℕ) (g : List ℕ) {m x : Move} (told : x ≡ m) where
 pub ends-group : {p : Phase} {b code : ℕ} (flaw damaged overlong : Bool) → b ≡ code → code ≡ wireByteOf CR
     → p ≡ Group flaw damaged overlong → Judges flaw damaged overlong ≡ move p (symbolOf b)
 ends-group flaw damaged overlong e w q = rw (e, w, q, cr-symbol)
+
+-- what the reader tells of a group that is neither damaged nor too long
+pub heard-judged : (mode : ℕ) (damaged overlong : Bool) (content : List ℕ) (n : ℕ) → damaged ≡ false → overlong ≡ false
+    → (j : Judgement) → j ≡ judgement mode (take n content) → heardFrom j ≡ heardOf mode damaged overlong content n
+unfolding heardOf pick
+heard-judged mode damaged overlong content n e h j q = rw (e, h) (ap heardFrom q)

@@ -8,6 +8,7 @@ use lib.ListN.{length}
 use Rattle.characters.specs.Answers.{refused, given, every, pick}
 use Rattle.groups.specs.Groups.{Group}
 use Rattle.groups.specs.Judging.{judging}
+use Rattle.groups.specs.Place.{placeOf}
 use Rattle.groups.specs.declared.Refusal.the-variants.{TooLong}
 use Rattle.line.specs.Symbols.{symbolOf}
 use Rattle.line.specs.Lines.{LineAnswer, ofGroup}
@@ -72,7 +73,8 @@ textOf (b ∷ bs) = withText (symbolOf b) (textOf bs)
 unfoldable pub groupAnswer : ℕ → List ℕ → LineAnswer
 groupAnswer mode bs =
     pick (anyDamaged bs) (refused GroupDamaged)
-    (pick (ltb 128 (length (textOf bs))) (refused (GroupRefused TooLong)) (ofGroup (judging mode (textOf bs))))
+    (pick (ltb 128 (length (textOf bs))) (refused (GroupRefused TooLong 0))
+    (ofGroup (judging mode (textOf bs)) (placeOf mode (textOf bs))))
 
 -- the bytes between an STX and an ETX kept the frame sound: they are accepted groups, one behind the other
 pub data SoundFrame (mode : ℕ) : List ℕ → Type 0 where

@@ -11,9 +11,10 @@ use Rattle.characters.specs.Answers.{every, pick, firstOf}
 use Rattle.characters.specs.Wire.{isSound, characterOf, STX, ETX, EOT, LF, CR}
 use Rattle.groups.specs.Groups.{Group}
 use Rattle.groups.specs.Conditions.{conditions, fieldsAt}
+use Rattle.groups.specs.Place.{placeBy}
 use Rattle.groups.specs.Right.{RightGroup}
 use Rattle.groups.specs.declared.Mode.{Mode}
-use Rattle.line.specs.Entries.{Entry, accepted, only, entryList}
+use Rattle.line.specs.Entries.{Entry, accepted, refusedAt, only, entryList}
 
 -- a sound byte of this character: "An unsound byte is never a control character."
 unfoldable pub is : ℕ → ℕ → Bool
@@ -37,15 +38,18 @@ openGroup since = openSince (is LF) (is CR) since
 
 -- ---- A group
 
--- an answer by its number: the group's fields belong to 1 alone
-abbrev pub numbered : ℕ → Group → Entry
-numbered n g = pick (eqb n 1) (accepted g) (only n)
+-- an answer by its number: the group's fields belong to 1 alone, and a refusal has a place
+abbrev pub numbered : ℕ → Group → ℕ → Entry
+numbered n g place = pick (eqb n 1) (accepted g) (refusedAt n place)
+
+-- the answer to a content whose number is n
+abbrev pub dueBy : Mode → List ℕ → ℕ → Entry
+dueBy m c n = numbered n (fieldsAt m c) (placeBy m c n)
 
 -- "Order: 7 to 14 as numbered": 7, "a damaged byte in the group", and then what document 01 says of the characters
 unfoldable pub groupDue : Mode → List ℕ → Entry
 groupDue m bs =
-    numbered (firstOf 1 ((7, not (every isSound bs)) ∷ conditions m (map characterOf bs)))
-    (fieldsAt m (map characterOf bs))
+    dueBy m (map characterOf bs) (firstOf 1 ((7, not (every isSound bs)) ∷ conditions m (map characterOf bs)))
 
 -- ---- The flaw
 

@@ -10,6 +10,7 @@ pub mod Heard
 pub mod Accepted
 pub mod LookingBack
 pub mod GroupsByBytes
+pub mod PlacesByBytes
 pub mod ByBytes
 pub mod AcceptedByBytes
 pub mod SoundByBytes

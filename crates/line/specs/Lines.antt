@@ -8,6 +8,7 @@ use lib.ListN.{length}
 use Rattle.characters.specs.Answers.{Answer, refused, given, pick}
 use Rattle.groups.specs.Groups.{Group}
 use Rattle.groups.specs.Judging.{judging}
+use Rattle.groups.specs.Place.{placeOf}
 use Rattle.groups.specs.declared.Refusal.{Refusal}
 use Rattle.groups.specs.declared.Refusal.the-variants.{TooLong}
 use Rattle.line.specs.Symbols.{symbolOf}
@@ -46,15 +47,16 @@ added flaw damaged overlong content c =
     (record { phase = phase.Group flaw damaged overlong; content = content ++ c ∷ [] })
     (record { phase = phase.Group flaw damaged true; content = content })
 
--- what the groups' reader says, as an answer of the line
-abbrev pub ofGroup : Answer Refusal Group → LineAnswer
-ofGroup (given g) = given g
-ofGroup (refused refusal) = refused (GroupRefused refusal)
+-- what the groups' reader says, with the place that it tells, as an answer of the line
+abbrev pub ofGroup : Answer Refusal Group → ℕ → LineAnswer
+ofGroup (given g) place = given g
+ofGroup (refused refusal) place = refused (GroupRefused refusal place)
 
 -- "Order: 7 to 14 as numbered": a damaged byte in the group, content over 128, and then the reader's word
 unfoldable pub verdict : ℕ → Bool → Bool → List ℕ → LineAnswer
 verdict mode damaged overlong content =
-    pick damaged (refused GroupDamaged) (pick overlong (refused (GroupRefused TooLong)) (ofGroup (judging mode content)))
+    pick damaged (refused GroupDamaged)
+    (pick overlong (refused (GroupRefused TooLong 0)) (ofGroup (judging mode content) (placeOf mode content)))
 
 abbrev pub isRefused : LineAnswer → Bool
 isRefused (refused notice) = true

@@ -4,7 +4,7 @@ use Prim.Native.Nat.{ℕ}
 use Rattle.characters.specs.Answers.{refused, given}
 use Rattle.groups.specs.Numbers.{numberOfRefusal}
 use Rattle.line.specs.Lines.{LineAnswer}
-use Rattle.line.specs.Entries.{Entry, accepted, only}
+use Rattle.line.specs.Entries.{Entry, accepted, refusedAt}
 use Rattle.line.specs.declared.Notice.{Notice}
 use Rattle.line.specs.declared.Notice.the-variants.{
   FrameSound,
@@ -27,17 +27,27 @@ numberOfNotice FrameInterrupted = 4
 numberOfNotice FrameRestarted = 5
 numberOfNotice GroupRestarted = 6
 numberOfNotice GroupDamaged = 7
-numberOfNotice (GroupRefused refusal) = numberOfRefusal refusal
+numberOfNotice (GroupRefused refusal place) = numberOfRefusal refusal
+
+-- "for a refusal the fourth byte holds this place": only a group that was refused has one
+abbrev pub placeOfNotice : Notice → ℕ
+placeOfNotice FrameSound = 0
+placeOfNotice FrameFlawed = 0
+placeOfNotice FrameInterrupted = 0
+placeOfNotice FrameRestarted = 0
+placeOfNotice GroupRestarted = 0
+placeOfNotice GroupDamaged = 0
+placeOfNotice (GroupRefused refusal place) = place
 
 -- "1: group accepted"
 abbrev pub numberOfAnswer : LineAnswer → ℕ
 numberOfAnswer (given g) = 1
 numberOfAnswer (refused notice) = numberOfNotice notice
 
--- an answer with its number, as a sheet shows it
+-- an answer with its number and its place, as a sheet shows it
 abbrev pub shown : LineAnswer → Entry
 shown (given g) = accepted g
-shown (refused notice) = only (numberOfNotice notice)
+shown (refused notice) = refusedAt (numberOfNotice notice) (placeOfNotice notice)
 
 abbrev pub shownIf : Option LineAnswer → Option Entry
 shownIf none = none
@@ -48,6 +58,11 @@ abbrev pub numberOf : Heard → ℕ
 numberOf Nothing = 0
 numberOf (Accepted fields) = 1
 numberOf (Told notice) = numberOfNotice notice
+
+abbrev pub placeOf : Heard → ℕ
+placeOf Nothing = 0
+placeOf (Accepted fields) = 0
+placeOf (Told notice) = placeOfNotice notice
 
 -- "0: an opening .. that is not refused"; "19: a mode not 0 to 2"
 abbrev pub numberOfOpening : Opening → ℕ

@@ -5,19 +5,21 @@ use mathlib.Core.Bool.{Bool, true, false, not, _||_}
 use mathlib.Core.Option.{none, some}
 use mathlib.Core.List.{List, [], _∷_, _++_, map}
 use Prim.Native.Nat.{ℕ, _<_}
-use lib.Dec.{T}
-use lib.ListN.{length}
+use lib.Dec.{T, eqb}
+use lib.ListN.{length, take}
 use Rattle.characters.specs.Answers.{given, refused, every, pick}
-use Rattle.characters.specs.Wire.{isSound, CR, ETX}
+use Rattle.characters.specs.Wire.{isSound, characterOf, CR, ETX}
 use Rattle.groups.specs.Kinds.{within}
-use Rattle.groups.specs.Modes.{modeOf, isMode}
+use Rattle.groups.specs.Modes.{modeOf, isMode, separator}
 use Rattle.groups.specs.Groups.{Group}
+use Rattle.groups.specs.Conditions.{labelOf}
+use Rattle.groups.specs.FirstWrong.{WrongDataAt}
 use Rattle.groups.specs.Writing.{writing}
 use Rattle.groups.specs.declared.Mode.{Mode}
 use Rattle.line.specs.Symbols.{symbolOf}
 use Rattle.line.specs.Lines.{LineAnswer, State, isRefused, step, after, answers, outside, inFrame, untilAnswer}
 use Rattle.line.specs.Between.{noControl, noStx, groupAnswer, SoundFrame}
-use Rattle.line.specs.Entries.{accepted, only, numberIn}
+use Rattle.line.specs.Entries.{accepted, only, numberIn, placeIn}
 use Rattle.line.specs.ByBytes.{
   is,
   openFrame,
@@ -29,7 +31,7 @@ use Rattle.line.specs.ByBytes.{
   EndsInRightGroup,
   RightFrame,
 }
-use Rattle.line.specs.Numbers.{numberOfAnswer, shown, shownIf, numberOf, numberOfOpening}
+use Rattle.line.specs.Numbers.{numberOfAnswer, shown, shownIf, numberOf, placeOf, numberOfOpening}
 use Rattle.line.specs.State.{lineOf, openingOf}
 use Rattle.line.specs.Steps.{heardAnswer, fed}
 use Rattle.line.specs.Views.{FedView, fed-view}
@@ -39,6 +41,7 @@ use Rattle.line.specs.Laws.Written.{written-sent}
 use Rattle.line.specs.Laws.Frames.{stx-restarts, frame-sound}
 use Rattle.line.specs.Laws.ByBytes as by-bytes
 use Rattle.line.specs.Laws.GroupsByBytes as group-laws
+use Rattle.line.specs.Laws.PlacesByBytes as places
 use Rattle.line.specs.Laws.AcceptedByBytes as accepted-laws
 use Rattle.line.specs.Laws.SoundByBytes as sound-laws
 use Rattle.line.specs.Laws.Numbers as numbers
@@ -86,6 +89,10 @@ answer-number = numbers.answer-shown
 pub heard-number : (h : Heard) (content : List ℕ) → numberOf h ≡ numberIn (shownIf (heardAnswer h content))
 heard-number = numbers.heard-number
 
+-- So with its place (document 02, M-104), 0 where it has none.
+pub heard-place : (h : Heard) (content : List ℕ) → placeOf h ≡ placeIn (shownIf (heardAnswer h content))
+heard-place = numbers.heard-place
+
 -- On a line of a known mode, wherever it is and whatever bytes come, every answer has a number of 1 to 14.
 pub answer-numbers : (mode : ℕ) → isMode mode ≡ true → (s : State) (bs : List ℕ)
     → T (every (λ a. within 1 14 (numberOfAnswer a)) (answers mode s bs))
@@ -123,6 +130,20 @@ count-by-bytes = by-bytes.until-by-bytes
 pub accepted-by-bytes : (m : Mode) (before : List ℕ) (b : ℕ) (g : Group)
     → (answerDue m before b ≡ some (accepted g)) ↔ (T (is CR b) × EndsInRightGroup m before g)
 accepted-by-bytes = accepted-laws.accepted-by-bytes
+
+-- Document 02, M-104. A group that is answered by 14 comes with the place of its first wrong data character, one that is answered by
+-- 12 with that of the first character after the label's separator, and any other with 0.
+pub data-placed : (m : Mode) (bs : List ℕ) → groupDue m bs .number ≡ 14
+    → WrongDataAt m (map characterOf bs) (groupDue m bs .place)
+data-placed = places.data-placed
+
+pub stamp-placed : (m : Mode) (bs : List ℕ) → groupDue m bs .number ≡ 12
+    → take (groupDue m bs .place) (map characterOf bs) ≡ labelOf m (map characterOf bs) ++ separator m ∷ []
+stamp-placed = places.stamp-placed
+
+pub others-unplaced : (m : Mode) (bs : List ℕ)
+    → T (not (eqb (groupDue m bs .number) 12)) → T (not (eqb (groupDue m bs .number) 14)) → groupDue m bs .place ≡ 0
+others-unplaced = places.others-unplaced
 
 -- A group is answered by 7 exactly when one of its bytes is unsound, and by 8 exactly when none is and more than 128 came.
 pub damaged-exactly : (m : Mode) (bs : List ℕ) → (groupDue m bs .number ≡ 7) ↔ T (not (every isSound bs))

@@ -9,8 +9,10 @@ use lib.Dec.{ltb}
 use lib.ListN.{take, set}
 use Rattle.characters.specs.Answers.{refused, given, pick}
 use Rattle.groups.specs.Groups.{groupOf}
-use Rattle.groups.specs.Judging.{judging, shown, partOf}
+use Rattle.groups.specs.Judging.{partOf}
+use Rattle.groups.specs.Place.{judgement}
 use Rattle.groups.specs.declared.Judged.{Judged}
+use Rattle.groups.specs.declared.Judgement.{Judgement}
 use Rattle.groups.specs.declared.Verdict.{Verdict}
 use Rattle.groups.specs.declared.Verdict.the-variants as verdict
 use Rattle.groups.specs.declared.Refusal.the-variants.{TooLong}
@@ -38,19 +40,22 @@ heardAnswer (Accepted fields) content =
     (partOf (fields .«data») content)))
 heardAnswer (Told notice) content = some (refused notice)
 
--- what judging shows, as the line hears it
-abbrev pub heardAs : Verdict → Fields → Heard
-heardAs verdict.Accepted fields = Accepted fields
-heardAs (verdict.Refused refusal) fields = Told (GroupRefused refusal)
+-- what judging tells, as the line hears it
+abbrev pub heardAs : Verdict → Fields → ℕ → Heard
+heardAs verdict.Accepted fields place = Accepted fields
+heardAs (verdict.Refused refusal) fields place = Told (GroupRefused refusal place)
 
-abbrev pub heardFrom : Judged → Heard
-heardFrom j = heardAs (j .verdict) (record { label = j .label; stamp = j .stamp; «data» = j .«data» })
+abbrev pub fieldsShown : Judged → Fields
+fieldsShown j = record { label = j .label; stamp = j .stamp; «data» = j .«data» }
+
+abbrev pub heardFrom : Judgement → Heard
+heardFrom j = heardAs (j .judged .verdict) (fieldsShown (j .judged)) (j .place)
 
 -- a group that is complete
 unfoldable pub heardOf : ℕ → Bool → Bool → List ℕ → ℕ → Heard
 heardOf mode damaged overlong content n =
     pick damaged (Told GroupDamaged)
-    (pick overlong (Told (GroupRefused TooLong)) (heardFrom (shown (judging mode (take n content)))))
+    (pick overlong (Told (GroupRefused TooLong 0)) (heardFrom (judgement mode (take n content))))
 
 abbrev pub endedOf : ℕ → Bool → Heard → Reaction
 endedOf mode flaw (Accepted fields) = record { line = stateOf mode (Frame flaw) 0; heard = Accepted fields }

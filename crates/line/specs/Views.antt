@@ -14,6 +14,7 @@ use borrow.Author.Tests.{ltb-true}
 use Rattle.characters.specs.Answers.{Answer, refused, given, pick, by-pick}
 use Rattle.groups.specs.Groups.{Group}
 use Rattle.groups.specs.Judging.{judging, shown, partOf, Shows, Inside}
+use Rattle.groups.specs.Place.{placeOf, judgement}
 use Rattle.groups.specs.Laws.Shown.{shows, shown-inside, part-of-more}
 use Rattle.groups.specs.declared.Refusal.{Refusal}
 use Rattle.groups.specs.declared.Verdict.the-variants as verdicts
@@ -144,11 +145,15 @@ record JudgedAs (h : Heard) (g : List ℕ) (a : LineAnswer) : Type 0 where
 
 -- what the groups' reader shows of the first n lent bytes is what it says of them
 shown-view : (mode n : ℕ) (g : List ℕ) → length g ≡ 128 → n ≤ 128
-    → JudgedAs (heardFrom (shown (judging mode (take n g)))) g (ofGroup (judging mode (take n g)))
+    → JudgedAs (heardFrom (judgement mode (take n g))) g (ofGroup (judging mode (take n g)) (placeOf mode (take n g)))
 unfolding heardAnswer
 shown-view mode n g e k = go (judging mode (take n g)) refl
   where
-    go : (a : Answer Refusal Group) → judging mode (take n g) ≡ a → JudgedAs (heardFrom (shown a)) g (ofGroup a)
+    at : ℕ
+    at = placeOf mode (take n g)
+
+    go : (a : Answer Refusal Group) → judging mode (take n g) ≡ a
+        → JudgedAs (heardFrom (record { judged = shown a; place = at })) g (ofGroup a at)
     go (refused refusal) q = record { told = refl; fits = tt }
     go (given w) q =
         let j = shown (given w) in

@@ -11,7 +11,7 @@ mod step;
 use groups::Refusal;
 use groups::Stretch;
 ghost use mathlib.Core.Path.{_≡_};
-ghost use Rattle.line.specs.Numbers.{numberOf, numberOfNotice, numberOfOpening};
+ghost use Rattle.line.specs.Numbers.{numberOf, numberOfNotice, placeOf, placeOfNotice, numberOfOpening};
 ghost use Rattle.line.specs.State.{openingOf};
 ghost use Rattle.line.specs.Steps.{Fed, fed};
 
@@ -27,7 +27,8 @@ pub struct LineState {
     pub length: u16,
 }
 
-// What a line tells of its frames and groups, an accepted group apart.
+// What a line tells of its frames and groups, an accepted group apart. A refused group comes with the place in its content
+// that judging tells (M-104).
 pub enum Notice {
     FrameSound,
     FrameFlawed,
@@ -35,7 +36,7 @@ pub enum Notice {
     FrameRestarted,
     GroupRestarted,
     GroupDamaged,
-    GroupRefused(Refusal),
+    GroupRefused(Refusal, u8),
 }
 
 // Where the fields of an accepted group stand in the lent content.
@@ -140,6 +141,17 @@ pub fn number_of(heard: Heard) -> u8
     }
 }
 
+// The place that comes with what was heard: that of a refused group, and 0 where there is none.
+pub fn place_of(heard: Heard) -> u8
+    ensures { λ r. ⌜ r ≡ placeOf heard ⌝ }
+{
+    match heard {
+        Heard::Nothing => 0,
+        Heard::Accepted(_) => 0,
+        Heard::Told(notice) => place_of_notice(notice),
+    }
+}
+
 // Document 01's number of an opening.
 pub fn number_of_opening(opening: Opening) -> u8
     ensures { λ r. ⌜ r ≡ numberOfOpening opening ⌝ }
@@ -160,6 +172,20 @@ fn number_of_notice(notice: Notice) -> u8
         Notice::FrameRestarted => 5,
         Notice::GroupRestarted => 6,
         Notice::GroupDamaged => 7,
-        Notice::GroupRefused(refusal) => groups::refusal_number(refusal),
+        Notice::GroupRefused(refusal, _) => groups::refusal_number(refusal),
+    }
+}
+
+fn place_of_notice(notice: Notice) -> u8
+    ensures { λ r. ⌜ r ≡ placeOfNotice notice ⌝ }
+{
+    match notice {
+        Notice::FrameSound => 0,
+        Notice::FrameFlawed => 0,
+        Notice::FrameInterrupted => 0,
+        Notice::FrameRestarted => 0,
+        Notice::GroupRestarted => 0,
+        Notice::GroupDamaged => 0,
+        Notice::GroupRefused(_, place) => place,
     }
 }

@@ -39,16 +39,18 @@ fn judged(mode: u8, damaged: bool, overlong: bool, content: &[u8], length: usize
         return Heard::Told(Notice::GroupDamaged);
     }
     if overlong {
-        return Heard::Told(Notice::GroupRefused(Refusal::TooLong));
+        return Heard::Told(Notice::GroupRefused(Refusal::TooLong, 0));
     }
-    let judged = groups::judge(mode, front(content, length));
+    let judgement = groups::judge(mode, front(content, length));
+    let judged = judgement.judged;
+    let place = judgement.place;
     let verdict = judged.verdict;
     let label = judged.label;
     let stamp = judged.stamp;
     let data = judged.data;
     match verdict {
         Verdict::Accepted => Heard::Accepted(Fields { label, stamp, data }),
-        Verdict::Refused(refusal) => Heard::Told(Notice::GroupRefused(refusal)),
+        Verdict::Refused(refusal) => Heard::Told(Notice::GroupRefused(refusal, place as u8)),
     }
 }
 

@@ -1,5 +1,6 @@
 -- Bytes laid into a text, one behind the other.
 use mathlib.Core.Path.{_≡_, refl, sym, _∙_, subst}
+use mathlib.Core.Bool.{true, false, _||_}
 use mathlib.Core.List.{List, [], _∷_, _++_, append-assoc, append-nil}
 use Prim.Native.Nat.{ℕ, _+_, _/_, _%_, _≤_, _<_}
 use native.Mathlib.Numerals.{add-one}
@@ -7,11 +8,11 @@ use native.Mathlib.Omega.{arith}
 use lib.ListN.{length, take, getD, set, length-append, length-set}
 use lib.Seq.{take-suc, take-suc-set, take-length}
 use borrow.Author.Tests.{le-ltb, lt-ltb}
-use lib.Dec.{ltb}
+use lib.Dec.{eqb, ltb}
 use Rattle.characters.specs.Answers.{pick, by-pick}
 use Rattle.characters.specs.Wire.{SP}
 use Rattle.groups.specs.Groups.{groupOf}
-use Rattle.listing.specs.Listing.{digits, stampOrDash, fieldsShown}
+use Rattle.listing.specs.Listing.{digits, stampOrDash, fieldsShown, placeShown}
 use Rattle.listing.specs.Parts.{Laid}
 
 -- one byte
@@ -67,10 +68,25 @@ pub one-digit : (n : ℕ) → n < 10 → (48 + n) ∷ [] ≡ digits n
 unfolding digits pick
 one-digit n h = rw (lt-ltb n 10 h)
 
--- and of two
-pub two-digits : (n : ℕ) → 10 ≤ n → ((48 + n / 10) ∷ []) ++ ((48 + n % 10) ∷ []) ≡ digits n
+-- of two
+pub two-digits : (n : ℕ) → 10 ≤ n → n < 100 → ((48 + n / 10) ∷ []) ++ ((48 + n % 10) ∷ []) ≡ digits n
 unfolding digits pick
-two-digits n h = rw (le-ltb n 10 h)
+two-digits n h k = rw (le-ltb n 10 h, lt-ltb n 100 k)
+
+-- and of three
+pub three-digits : (n : ℕ) → 10 ≤ n → 100 ≤ n
+    → ((48 + n / 100) ∷ []) ++ (((48 + n / 10 % 10) ∷ []) ++ ((48 + n % 10) ∷ [])) ≡ digits n
+unfolding digits pick
+three-digits n h k = rw (le-ltb n 10 h, le-ltb n 100 k)
+
+-- a place behind a space, or nothing
+pub some-place : (n place : ℕ) → (eqb n 12 || eqb n 14) ≡ true → (SP ∷ []) ++ digits place ≡ placeShown n place
+unfolding placeShown pick
+some-place n place e = rw e
+
+pub no-place : (n place : ℕ) → (eqb n 12 || eqb n 14) ≡ false → [] ≡ placeShown n place
+unfolding placeShown pick
+no-place n place e = rw e
 
 -- an absent stamp is shown as `-`
 pub no-stamp : (stamp : List ℕ) → length stamp ≡ 0 → (SP ∷ []) ++ (0x2D ∷ []) ≡ SP ∷ stampOrDash stamp
@@ -93,12 +109,23 @@ pub fields-joined : (label stamp d : List ℕ)
 unfolding fieldsShown
 fields-joined label stamp d = refl
 
--- no number has more than two digits
-pub digits-short : (n : ℕ) → length (digits n) ≤ 2
+-- no number has more than three digits
+pub digits-short : (n : ℕ) → length (digits n) ≤ 3
 unfolding digits
 digits-short n =
-    by-pick (λ (text : List ℕ). length text ≤ 2) (ltb n 10) _ _ (λ t. omega arith) (λ t. omega arith)
+    by-pick (λ (text : List ℕ). length text ≤ 3) (ltb n 10) _ _ (λ t. omega arith)
+    (λ t. by-pick (λ (text : List ℕ). length text ≤ 3) (ltb n 100) _ _ (λ t. omega arith) (λ t. omega arith))
+
+-- and no place more than those and a space
+pub place-short : (n place : ℕ) → length (placeShown n place) ≤ 4
+unfolding placeShown
+place-short n place =
+    by-pick (λ (text : List ℕ). length text ≤ 4) (eqb n 12 || eqb n 14) _ _ (λ t. omega (arith, digits-short place)) (λ t. omega arith)
 
 -- no bytes at the start of a text
 pub laid-nothing : (text : List ℕ) → Laid text 0 [] 0 text
 laid-nothing text = record { place-is = refl; fits = omega arith; text-is = refl }
+
+-- and none behind a place
+pub laid-no-more : (text : List ℕ) (at : ℕ) → at ≤ length text → Laid text at [] at text
+laid-no-more text at h = record { place-is = omega arith; fits = h; text-is = sym (append-nil (take at text)) }

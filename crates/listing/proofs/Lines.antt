@@ -1,68 +1,24 @@
 -- The line of each case of what was heard, and what a stretch of bytes lists, over plain variables.
 use mathlib.Core.Path.{_≡_, sym, ap, _∙_}
 use mathlib.Core.List.{List, [], _∷_, _++_, append-nil}
-use Prim.Native.Nat.{ℕ, _+_, _≤_, _<_}
+use Prim.Native.Nat.{ℕ, _+_, _≤_}
 use native.Mathlib.Omega.{arith}
 use lib.ListN.{length, length-take, length-drop, length-append}
 use Rattle.characters.specs.Wire.{LF}
 use Rattle.groups.specs.Groups.{groupOf}
 use Rattle.groups.specs.Judging.{partOf}
-use Rattle.groups.specs.Numbers.{numberOfRefusal}
 use Rattle.groups.specs.Laws.Shown.{part-inside}
 use Rattle.groups.specs.declared.Stretch.{Stretch}
-use Rattle.groups.specs.declared.Refusal.{Refusal}
-use Rattle.groups.specs.declared.Refusal.the-variants.{
-  TooLong,
-  Misshapen,
-  CheckWrong,
-  LabelUnknown,
-  StampWrong,
-  WidthWrong,
-  KindWrong,
-  NoRoom,
-  ModeUnknown,
-}
-use Rattle.line.specs.Numbers.{numberOf, numberOfNotice}
+use Rattle.line.specs.Numbers.{numberOf, numberOfNotice, placeOf, placeOfNotice}
 use Rattle.line.specs.Views.{FieldsInside}
 use Rattle.line.specs.Laws.Heard.{heard-nothing, heard-told, heard-accepted}
 use Rattle.line.specs.declared.Fields.{Fields}
 use Rattle.line.specs.declared.Notice.{Notice}
-use Rattle.line.specs.declared.Notice.the-variants.{
-  FrameSound,
-  FrameFlawed,
-  FrameInterrupted,
-  FrameRestarted,
-  GroupRestarted,
-  GroupDamaged,
-  GroupRefused,
-}
 use Rattle.line.specs.declared.Heard.{Heard}
 use Rattle.line.specs.declared.Heard.the-variants.{Nothing, Accepted, Told}
-use Rattle.listing.specs.Listing.{digits, fieldsShown, lineFor, linesFor}
+use Rattle.listing.specs.Listing.{digits, fieldsShown, placeShown, lineFor, linesFor}
 use Rattle.listing.specs.Parts.{Laid, linesHeard}
 use Rattle.listing.proofs.Laying.{laid-as, laid-then, one-digit, dash-length}
-
--- ---- Numbers have two digits at most
-
-refusal-short : (refusal : Refusal) → numberOfRefusal refusal < 100
-refusal-short TooLong = omega arith
-refusal-short Misshapen = omega arith
-refusal-short CheckWrong = omega arith
-refusal-short LabelUnknown = omega arith
-refusal-short StampWrong = omega arith
-refusal-short WidthWrong = omega arith
-refusal-short KindWrong = omega arith
-refusal-short NoRoom = omega arith
-refusal-short ModeUnknown = omega arith
-
-notice-short : (notice : Notice) → numberOfNotice notice < 100
-notice-short FrameSound = omega arith
-notice-short FrameFlawed = omega arith
-notice-short FrameInterrupted = omega arith
-notice-short FrameRestarted = omega arith
-notice-short GroupRestarted = omega arith
-notice-short GroupDamaged = omega arith
-notice-short (GroupRefused refusal) = refusal-short refusal
 
 -- ---- The line of each case
 
@@ -71,20 +27,15 @@ pub nothing-lines : (heard : Heard) (content : List ℕ) → heard ≡ Nothing �
 unfolding linesHeard linesFor
 nothing-lines heard content e = rw (e, heard-nothing content)
 
--- a notice has its number
-pub told-lines : (heard : Heard) (content : List ℕ) (notice : Notice) (number : ℕ) → heard ≡ Told notice
-    → number ≡ numberOf heard → digits number ++ LF ∷ [] ≡ linesHeard heard content
+-- a notice has its number and, where it is 12 or 14, its place
+pub told-lines : (heard : Heard) (content : List ℕ) (notice : Notice) (number place : ℕ) → heard ≡ Told notice
+    → number ≡ numberOf heard → place ≡ placeOf heard
+    → digits number ++ (placeShown number place ++ LF ∷ []) ≡ linesHeard heard content
 unfolding linesHeard linesFor lineFor
-told-lines heard content notice number e n =
+told-lines heard content notice number place e n p =
     let k : number ≡ numberOfNotice notice = n ∙ ap numberOf e in
-    rw (e, k, heard-told notice content) (sym (append-nil (digits (numberOfNotice notice) ++ LF ∷ [])))
-
--- which is short
-pub told-short : (heard : Heard) (notice : Notice) (number : ℕ) → heard ≡ Told notice → number ≡ numberOf heard
-    → number < 100
-told-short heard notice number e n =
-    let k : number ≡ numberOfNotice notice = n ∙ ap numberOf e in
-    rw k (notice-short notice)
+    let j : place ≡ placeOfNotice notice = p ∙ ap placeOf e in
+    rw (e, k, j, heard-told notice content) (sym (append-nil _))
 
 -- a stretch inside the content has its length
 part-length : (s : Stretch) (content : List ℕ) → length content ≡ 128 → s .start + s .length ≤ 128

@@ -1,13 +1,16 @@
 -- The laws behind the promises. Nobody has to believe them: they are checked.
 use mathlib.Core.Path.{_≡_, refl, sym, ap, _∙_}
-use mathlib.Core.Bool.{Bool, true, false}
+use mathlib.Core.Bool.{Bool, true, false, _&&_, _||_}
 use mathlib.Core.Option.{Option, none, some}
 use mathlib.Core.List.{List, [], _∷_, _++_, map, append-assoc, append-nil}
-use Prim.Native.Nat.{ℕ, _≤_}
+use Prim.Native.Nat.{ℕ, _+_, _/_, _%_, _≤_, _<_}
 use native.Mathlib.Omega.{arith}
-use lib.ListN.{length}
+use lib.Dec.{T, eqb, leb, ltb, le→leb, lt→ltb, ltb→lt, nltb→le}
+use lib.ListN.{length, getD}
+use mir.Facts.{yes-and}
 use borrow.Author.Tests.{ne-eqb}
-use Rattle.characters.specs.Answers.{pick}
+use Rattle.characters.specs.Answers.{every, pick, by-pick}
+use Rattle.groups.specs.Kinds.{within}
 use Rattle.groups.specs.Modes.{isMode}
 use Rattle.groups.specs.Table.{codes}
 use Rattle.line.specs.Lines.{LineAnswer, State, after, answers, outside}
@@ -19,7 +22,8 @@ use Rattle.line.specs.Laws.Openings.{opening-known, opening-unknown}
 use Rattle.line.specs.declared.LineState.{LineState}
 use Rattle.line.specs.declared.rules.Phase.the-variants.{Outside}
 use Rattle.line.specs.declared.Opening.the-variants.{Opened}
-use Rattle.listing.specs.Listing.{lineFor, linesFor, modeBy, listingIn, listing, joined, linesByPiece}
+use Rattle.listing.specs.Listing.{digits, placeShown, lineFor, linesFor, modeBy, listingIn, listing, joined, linesByPiece}
+use Rattle.listing.specs.Shown.{valueFrom, placedAnswers, placedLines}
 use Rattle.listing.specs.Parts.{Fresh, openingIn}
 
 -- the lines of answers behind each other
@@ -97,3 +101,42 @@ letters-known = refl
 pub letter-unknown : (letter : ℕ) → (letter ≡ 0x48 → ⊥) → (letter ≡ 0x53 → ⊥) → (letter ≡ 0x50 → ⊥) → modeBy letter ≡ none
 unfolding modeBy pick
 letter-unknown letter h s p = rw (ne-eqb letter 0x48 h, ne-eqb letter 0x53 s, ne-eqb letter 0x50 p)
+
+-- ---- Numbers and places
+
+-- a property of digits, for each count of them
+by-digits : (P : List ℕ → Type 0) (n : ℕ) → (n < 10 → P ((0x30 + n) ∷ []))
+    → (10 ≤ n → n < 100 → P ((0x30 + n / 10) ∷ (0x30 + n % 10) ∷ []))
+    → (100 ≤ n → P ((0x30 + n / 100) ∷ (0x30 + n / 10 % 10) ∷ (0x30 + n % 10) ∷ [])) → P (digits n)
+unfolding digits
+by-digits P n one two three =
+    by-pick P (ltb n 10) _ _ (λ t. one (ltb→lt n 10 t))
+    (λ t. by-pick P (ltb n 100) _ _ (λ u. two (nltb→le n 10 t) (ltb→lt n 100 u)) (λ u. three (nltb→le n 100 u)))
+
+is-digit : (k : ℕ) → k < 10 → T (within 0x30 0x39 (0x30 + k))
+is-digit k h = yes-and (leb 0x30 (0x30 + k)) (leb (0x30 + k) 0x39) (le→leb 0x30 (0x30 + k) (omega arith)) (le→leb (0x30 + k) 0x39 (omega arith))
+
+pub digits-valued : (n : ℕ) → n < 1000
+    → T (every (within 0x30 0x39) (digits n)) × (valueFrom 0 (digits n) ≡ n) × T (eqb (length (digits n)) 1 || ltb 0x30 (getD (digits n) 0 0))
+digits-valued n h =
+    by-digits
+    (λ (ds : List ℕ). T (every (within 0x30 0x39) ds) × (valueFrom 0 ds ≡ n) × T (eqb (length ds) 1 || ltb 0x30 (getD ds 0 0))) n
+    (λ k. (yes-and (within 0x30 0x39 (0x30 + n)) true (is-digit n k) tt, omega arith, tt))
+    (λ k j. (
+      yes-and (within 0x30 0x39 (0x30 + n / 10)) (within 0x30 0x39 (0x30 + n % 10) && true) (is-digit (n / 10) (omega arith))
+          (yes-and (within 0x30 0x39 (0x30 + n % 10)) true (is-digit (n % 10) (omega arith)) tt),
+      omega arith,
+      lt→ltb 0x30 (0x30 + n / 10) (omega arith),
+    ))
+    (λ k. (
+      yes-and (within 0x30 0x39 (0x30 + n / 100)) (within 0x30 0x39 (0x30 + n / 10 % 10) && (within 0x30 0x39 (0x30 + n % 10) && true))
+          (is-digit (n / 100) (omega arith))
+          (yes-and (within 0x30 0x39 (0x30 + n / 10 % 10)) (within 0x30 0x39 (0x30 + n % 10) && true) (is-digit (n / 10 % 10) (omega arith))
+          (yes-and (within 0x30 0x39 (0x30 + n % 10)) true (is-digit (n % 10) (omega arith)) tt)),
+      omega arith,
+      lt→ltb 0x30 (0x30 + n / 100) (omega arith),
+    ))
+
+pub lines-placed : map lineFor placedAnswers ≡ map codes placedLines
+unfolding lineFor placeShown digits pick
+lines-placed = refl

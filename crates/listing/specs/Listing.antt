@@ -1,4 +1,5 @@
 -- The listing of a capture (document 01, "The listing").
+use mathlib.Core.Bool.{_||_}
 use mathlib.Core.Option.{Option, none, some}
 use mathlib.Core.List.{List, [], _∷_, _++_}
 use Prim.Native.Nat.{ℕ, _+_, _/_, _%_}
@@ -7,11 +8,14 @@ use Rattle.characters.specs.Answers.{refused, given, pick}
 use Rattle.characters.specs.Wire.{LF, SP}
 use Rattle.groups.specs.Groups.{Group}
 use Rattle.line.specs.Lines.{LineAnswer, State, after, answers, outside}
-use Rattle.line.specs.Numbers.{numberOfAnswer}
+use Rattle.line.specs.Numbers.{numberOfNotice, placeOfNotice, numberOfAnswer}
 
--- "the number", in digits, of which no number in document 01 has more than two
+-- "the number", in digits: no number in document 01 has more than two, and no place, which fits a byte, more than three
 unfoldable pub digits : ℕ → List ℕ
-digits n = pick (ltb n 10) ((0x30 + n) ∷ []) ((0x30 + n / 10) ∷ (0x30 + n % 10) ∷ [])
+digits n =
+    pick (ltb n 10) ((0x30 + n) ∷ [])
+    (pick (ltb n 100) ((0x30 + n / 10) ∷ (0x30 + n % 10) ∷ [])
+    ((0x30 + n / 100) ∷ (0x30 + n / 10 % 10) ∷ (0x30 + n % 10) ∷ []))
 
 -- "stamp or `-`": an absent stamp is empty
 abbrev pub stampOrDash : List ℕ → List ℕ
@@ -22,9 +26,13 @@ stampOrDash (x ∷ xs) = x ∷ xs
 unfoldable pub fieldsShown : Group → List ℕ
 fieldsShown g = SP ∷ (g .label ++ SP ∷ (stampOrDash (g .stamp) ++ SP ∷ g .«data»))
 
+-- "The listing prints a space and the place after 12 and 14" (document 02, M-104)
+unfoldable pub placeShown : ℕ → ℕ → List ℕ
+placeShown n place = pick (eqb n 12 || eqb n 14) (SP ∷ digits place) []
+
 -- "for 1 also .."
 abbrev pub also : LineAnswer → List ℕ
-also (refused notice) = []
+also (refused notice) = placeShown (numberOfNotice notice) (placeOfNotice notice)
 also (given g) = fieldsShown g
 
 -- "a line per answer": the line of one answer, and those of several

@@ -3,13 +3,13 @@ use characters::LF;
 use characters::SP;
 use line::Fields;
 use line::Heard;
-ghost use mathlib.Core.List.{[], _∷_};
+ghost use mathlib.Core.List.{[], _∷_, _++_};
 ghost use Prim.Native.Nat.{_+_, _<_, _≤_};
 ghost use lib.ListN.{length};
-ghost use Rattle.characters.specs.Wire.{SP};
+ghost use Rattle.characters.specs.Wire.{LF, SP};
 ghost use Rattle.groups.specs.Groups.{groupOf};
 ghost use Rattle.line.specs.Views.{FieldsInside};
-ghost use Rattle.listing.specs.Listing.{digits, stampOrDash, fieldsShown};
+ghost use Rattle.listing.specs.Listing.{digits, stampOrDash, fieldsShown, placeShown};
 ghost use Rattle.listing.specs.Parts.{Laid, linesHeard};
 
 // Lays a byte at a place of the text; the place behind it.
@@ -34,16 +34,33 @@ fn put_all(text: &mut [u8], at: usize, bytes: &[u8]) -> usize
     at + i
 }
 
-// The digits of a number, at the start of the text.
-fn put_number(text: &mut [u8], number: u8) -> usize
-    requires { ⌜ (number < 100) × (2 ≤ length (now text)) ⌝ }
-    ensures { λ r. ⌜ Laid (now (text .entry)) 0 (digits number) r (now (text .exit)) ⌝ }
+// The digits of a number.
+fn put_number(text: &mut [u8], at: usize, number: u8) -> usize
+    requires { ⌜ at + 3 ≤ length (now text) ⌝ }
+    ensures { λ r. ⌜ Laid (now (text .entry)) at (digits number) r (now (text .exit)) ⌝ }
 {
     if number < 10 {
-        return put(text, 0, b'0' + number);
+        return put(text, at, b'0' + number);
     }
-    let units = put(text, 0, b'0' + number / 10);
+    if number < 100 {
+        let units = put(text, at, b'0' + number / 10);
+        return put(text, units, b'0' + number % 10);
+    }
+    let tens = put(text, at, b'0' + number / 100);
+    let units = put(text, tens, b'0' + number / 10 % 10);
     put(text, units, b'0' + number % 10)
+}
+
+// The place of a wrong stamp or of wrong data, after a space; no other refusal has one.
+fn put_place(text: &mut [u8], at: usize, number: u8, place: u8) -> usize
+    requires { ⌜ at + 4 ≤ length (now text) ⌝ }
+    ensures { λ r. ⌜ Laid (now (text .entry)) at (placeShown number place) r (now (text .exit)) ⌝ }
+{
+    if (number == 12) | (number == 14) {
+        let start = put(text, at, SP);
+        return put_number(text, start, place);
+    }
+    at
 }
 
 // A field of a line, after the space that parts it from what stands before.
@@ -86,7 +103,7 @@ fn put_group(text: &mut [u8], fields: Fields, content: [u8; 128]) -> usize
     let label = fields.label;
     let stamp = fields.stamp;
     let data = fields.data;
-    let behind_number = put_number(text, 1);
+    let behind_number = put_number(text, 0, 1);
     let behind_fields = put_fields(
         text,
         behind_number,
@@ -97,18 +114,26 @@ fn put_group(text: &mut [u8], fields: Fields, content: [u8; 128]) -> usize
     put(text, behind_fields, LF)
 }
 
+// The line of a notice: its number, and the place of a refused group.
+fn put_told(text: &mut [u8], number: u8, place: u8) -> usize
+    requires { ⌜ 134 ≤ length (now text) ⌝ }
+    ensures { λ r. ⌜ Laid (now (text .entry)) 0 (digits number ++ (placeShown number place ++ LF ∷ [])) r (now (text .exit)) ⌝ }
+{
+    let behind_number = put_number(text, 0, number);
+    let behind_place = put_place(text, behind_number, number, place);
+    put(text, behind_place, LF)
+}
+
 // The line of what was heard; nothing heard has none.
 pub(crate) fn put_line(text: &mut [u8], heard: Heard, content: [u8; 128]) -> usize
     requires { ⌜ FieldsInside heard × (134 ≤ length (now text)) ⌝ }
     ensures { λ r. ⌜ Laid (now (text .entry)) 0 (linesHeard heard content) r (now (text .exit)) ⌝ }
 {
     let number = line::number_of(heard);
+    let place = line::place_of(heard);
     match heard {
         Heard::Nothing => 0,
         Heard::Accepted(fields) => put_group(text, fields, content),
-        Heard::Told(_) => {
-            let behind_number = put_number(text, number);
-            put(text, behind_number, LF)
-        }
+        Heard::Told(_) => put_told(text, number, place),
     }
 }

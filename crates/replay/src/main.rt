@@ -198,7 +198,8 @@ fn round(
 
 // Judges a content: its line, but for the end.
 fn judge(pen: Pen, page: &mut Page, mode: u8, content: &[u8]) -> Pen {
-    let judged = groups::judge(mode, content);
+    let judgement = groups::judge(mode, content);
+    let judged = judgement.judged;
     let verdict = judged.verdict;
     let label = judged.label;
     let stamp = judged.stamp;
@@ -206,7 +207,8 @@ fn judge(pen: Pen, page: &mut Page, mode: u8, content: &[u8]) -> Pen {
     let begun = begin(pen, page, b"J", groups::number_of(verdict));
     let labelled = output::put_hex(begun, page, groups::part(content, label));
     let stamped = output::put_hex(labelled, page, groups::part(content, stamp));
-    output::put_hex(stamped, page, groups::part(content, data))
+    let filled = output::put_hex(stamped, page, groups::part(content, data));
+    output::put_number(filled, page, judgement.place)
 }
 
 fn judging(reader: Reader, pen: Pen, piece: &mut Piece, page: &mut Page) -> Desk {

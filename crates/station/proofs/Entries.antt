@@ -7,9 +7,11 @@ use native.Mathlib.Nat.{add-zero}
 use lib.ListN.{length, take, drop, length-take, length-drop, length-append}
 use lib.Seq.{paste, paste-zero}
 use Rattle.groups.specs.declared.Stretch.{Stretch}
-use Rattle.line.specs.Numbers.{numberOf, numberOfNotice}
+use Rattle.characters.specs.Answers.{pick}
+use Rattle.line.specs.Numbers.{numberOf, numberOfNotice, placeOf, placeOfNotice}
 use Rattle.line.specs.Views.{FieldsInside}
 use Rattle.line.specs.Laws.Heard.{heard-nothing, heard-told, heard-accepted}
+use Rattle.line.specs.Laws.GroupsByBytes.{notice-number}
 use Rattle.line.specs.declared.Fields.{Fields}
 use Rattle.line.specs.declared.Notice.{Notice}
 use Rattle.line.specs.declared.Heard.{Heard}
@@ -30,13 +32,13 @@ unfolding entryHeard
 nothing-entry content = rw (heard-nothing content)
 
 told-entry : (notice : Notice) (content : List ℕ)
-    → entryHeard (Told notice) content ≡ numberOfNotice notice ∷ 0 ∷ 0 ∷ 0 ∷ []
-unfolding entryHeard entryBytes
-told-entry notice content = rw (heard-told notice content)
+    → entryHeard (Told notice) content ≡ numberOfNotice notice ∷ 0 ∷ 0 ∷ placeOfNotice notice ∷ []
+unfolding entryHeard entryBytes pick
+told-entry notice content = rw (heard-told notice content, notice-number notice)
 
 group-entry : (fields : Fields) (content : List ℕ) → length content ≡ 128 → FieldsInside (Accepted fields)
     → entryHeard (Accepted fields) content ≡ groupEntry fields content
-unfolding entryHeard entryBytes
+unfolding entryHeard entryBytes pick
 group-entry fields content e inside =
     rw (
       heard-accepted fields content e inside,
@@ -84,12 +86,14 @@ module _ (sheet content : List ℕ) (at room : ℕ) (heard : Heard) (long : leng
       short-put sheet sheet content at at heard long (fits .inside)
       (rw (e, nothing-entry content) (sym (add-zero at), paste-zero sheet at []))
 
-  pub put-told : (x : List ℕ) (number : ℕ) (notice : Notice) → heard ≡ Told notice → number ≡ numberOf heard
-      → x ≡ paste sheet at (number ∷ 0 ∷ 0 ∷ 0 ∷ []) 4 → PutShort sheet at (entryHeard heard content) (at + 4) x
-  put-told x number notice e n p =
+  pub put-told : (x : List ℕ) (number place : ℕ) (notice : Notice) → heard ≡ Told notice → number ≡ numberOf heard
+      → place ≡ placeOf heard
+      → x ≡ paste sheet at (number ∷ 0 ∷ 0 ∷ place ∷ []) 4 → PutShort sheet at (entryHeard heard content) (at + 4) x
+  put-told x number place notice e n o p =
       let k : number ≡ numberOfNotice notice = n ∙ ap numberOf e in
+      let j : place ≡ placeOfNotice notice = o ∙ ap placeOf e in
       short-put sheet x content at (at + 4) heard long (fits .inside)
-      (rw (e, told-entry notice content) (refl, rw k at p))
+      (rw (e, told-entry notice content) (refl, rw (k, j) at p))
 
   pub put-accepted : (x : List ℕ) (place : ℕ) (fields : Fields) → heard ≡ Accepted fields
       → Put sheet at (groupEntry fields content) place x → PutShort sheet at (entryHeard heard content) place x

@@ -7,17 +7,19 @@ use mathlib.Core.Path.{_≡_}
 use mathlib.Core.Logic.{_≢_, _↔_}
 use mathlib.Core.Bool.{not}
 use mathlib.Core.Option.{none, some}
-use mathlib.Core.List.{List, [], _∷_, _++_}
+use mathlib.Core.List.{List, [], _∷_, _++_, map}
 use Prim.Native.Nat.{ℕ, _+_, _/_, _≤_, _<_}
-use lib.Dec.{T}
+use lib.Dec.{T, eqb}
 use lib.ListN.{length, take, drop}
 use Rattle.characters.specs.Answers.{given, every, firstOf}
-use Rattle.characters.specs.Wire.{isSound, ETX, CR}
-use Rattle.groups.specs.Modes.{modeOf}
+use Rattle.characters.specs.Wire.{isSound, characterOf, ETX, CR}
+use Rattle.groups.specs.Modes.{modeOf, separator}
 use Rattle.groups.specs.Groups.{Group}
 use Rattle.groups.specs.Judging.{judging, shown}
 use Rattle.groups.specs.Writing.{onTheWire, offTheWire, writing, told}
-use Rattle.groups.specs.Conditions.{givenWhen}
+use Rattle.groups.specs.Conditions.{labelOf, givenWhen}
+use Rattle.groups.specs.Place.{placeOf}
+use Rattle.groups.specs.FirstWrong.{WrongDataAt}
 use Rattle.groups.specs.WriterConditions.{writtenWhen}
 use Rattle.groups.specs.Numbers.{numberOf, numberOfWriting}
 use Rattle.groups.specs.Right.{RightGroup}
@@ -116,6 +118,36 @@ accepted-exactly = groups.accepted-exactly
 -- Its number is that of the first of document 01's conditions that holds, in their order, and 1 where none does.
 pub refused-exactly : (mode : ℕ) (c : List ℕ) → numberOf (shown (judging mode c) .verdict) ≡ firstOf 1 (givenWhen mode c)
 refused-exactly = groups.refused-exactly
+
+-- Document 02, M-104, of a group on a line (`answers-right` says that the line's answers, their places too, are those due): with 14
+-- comes the place of its first wrong data character, with 12 that of the first character after the label's separator, and
+-- with any other answer 0.
+pub data-placed : (m : Mode) (bs : List ℕ) → groupDue m bs .number ≡ 14
+    → WrongDataAt m (map characterOf bs) (groupDue m bs .place)
+data-placed = line.data-placed
+
+pub stamp-placed : (m : Mode) (bs : List ℕ) → groupDue m bs .number ≡ 12
+    → take (groupDue m bs .place) (map characterOf bs) ≡ labelOf m (map characterOf bs) ++ separator m ∷ []
+stamp-placed = line.stamp-placed
+
+pub others-unplaced : (m : Mode) (bs : List ℕ)
+    → T (not (eqb (groupDue m bs .number) 12)) → T (not (eqb (groupDue m bs .number) 14)) → groupDue m bs .place ≡ 0
+others-unplaced = line.others-unplaced
+
+-- The same of a group given alone.
+pub data-place : (mode : ℕ) (m : Mode) → modeOf mode ≡ some m → (c : List ℕ)
+    → numberOf (shown (judging mode c) .verdict) ≡ 14 → WrongDataAt m c (placeOf mode c)
+data-place = groups.data-place
+
+pub stamp-place : (mode : ℕ) (m : Mode) → modeOf mode ≡ some m → (c : List ℕ)
+    → numberOf (shown (judging mode c) .verdict) ≡ 12 → take (placeOf mode c) c ≡ labelOf m c ++ separator m ∷ []
+stamp-place = groups.stamp-place
+
+pub other-place : (mode : ℕ) (c : List ℕ)
+    → T (not (eqb (numberOf (shown (judging mode c) .verdict)) 12))
+    → T (not (eqb (numberOf (shown (judging mode c) .verdict)) 14))
+    → placeOf mode c ≡ 0
+other-place = groups.other-place
 
 -- What is written is sound bytes: LF, a content and CR; this content is accepted as the group that was to be written.
 pub written-reads-back : (mode : ℕ) (g : Group) (room : ℕ) (w : List ℕ) → writing mode g room ≡ given w

@@ -5,8 +5,16 @@ use Prim.Native.Nat.{ℕ, _+_, _*_}
 use lib.Dec.{eqb}
 use lib.ListN.{getD, take, drop}
 use Rattle.characters.specs.Answers.{pick}
-use Rattle.line.specs.Entries.{Entry}
+use Rattle.groups.specs.Groups.{groupOf}
+use Rattle.line.specs.Entries.{Entry, accepted, refusedAt}
 use Rattle.station.specs.Sheets.{Told}
+
+-- an entry by its four bytes and its text: 1 has lengths and the three texts, all others a place
+abbrev pub entryBy : ℕ → ℕ → ℕ → ℕ → List ℕ → Entry
+entryBy n a b c text =
+    pick (eqb n 1)
+    (accepted (groupOf (take a text) (take b (drop a text)) (take c (drop b (drop a text)))))
+    (refusedAt n c)
 
 -- the entry that stands at the front of these bytes
 unfoldable pub readEntry : List ℕ → Option Entry
@@ -14,13 +22,7 @@ readEntry [] = none
 readEntry (n ∷ []) = none
 readEntry (n ∷ a ∷ []) = none
 readEntry (n ∷ a ∷ b ∷ []) = none
-readEntry (n ∷ a ∷ b ∷ c ∷ text) =
-    some (record {
-      number = n;
-      label = take a text;
-      stamp = take b (drop a text);
-      «data» = take c (drop b (drop a text));
-    })
+readEntry (n ∷ a ∷ b ∷ c ∷ text) = some (entryBy n a b c text)
 
 -- the entry at an offset; "0 where a line has no answer"
 unfoldable pub entryAt : List ℕ → ℕ → Option Entry

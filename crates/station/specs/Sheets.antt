@@ -2,7 +2,9 @@
 use mathlib.Core.Option.{Option, none, some}
 use mathlib.Core.List.{List, [], _∷_, _++_, map}
 use Prim.Native.Nat.{ℕ, _+_, _%_, _/_}
+use lib.Dec.{eqb}
 use lib.ListN.{length}
+use Rattle.characters.specs.Answers.{pick}
 use Rattle.line.specs.Entries.{Entry}
 
 -- what a round tells of one line's turn: how many bytes it took, and its answer, if it gave one
@@ -14,10 +16,14 @@ pub record Told : Type 0 where
 abbrev pub idle : Told
 idle = record { count = 0; entry = none }
 
+-- "In a sheet entry for a refusal the fourth byte holds this place instead of zero" (document 02, M-104)
+abbrev pub fourthByte : Entry → ℕ
+fourthByte e = pick (eqb (e .number) 1) (length (e .«data»)) (e .place)
+
 -- "An entry is answer number, label length, stamp length, data length, then label, stamp and data."
 unfoldable pub entryBytes : Entry → List ℕ
 entryBytes e =
-    e .number ∷ length (e .label) ∷ length (e .stamp) ∷ length (e .«data»)
+    e .number ∷ length (e .label) ∷ length (e .stamp) ∷ fourthByte e
     ∷ (e .label ++ (e .stamp ++ e .«data»))
 
 abbrev pub entryOf : Option Entry → List ℕ

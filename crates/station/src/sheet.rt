@@ -37,11 +37,12 @@ pub(crate) fn put_entry(sheet: &mut [u8], at: usize, heard: Heard, content: [u8;
     ensures { λ r. ⌜ PutShort (now (sheet .entry)) at (entryHeard heard content) r (now (sheet .exit)) ⌝ }
 {
     let number = line::number_of(heard);
+    let place = line::place_of(heard);
     match heard {
         Heard::Nothing => at,
         Heard::Accepted(fields) => put_group(sheet, at, fields, content),
         Heard::Told(_) => {
-            let head = [number, 0, 0, 0];
+            let head = [number, 0, 0, place];
             copy::copy_in(sheet, at, &head);
             at + 4
         }

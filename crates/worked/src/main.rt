@@ -1,8 +1,8 @@
 // Judges the worked groups and writes each accepted one again. Standard input is a row of records: a byte with the
 // mode, two with the length, low byte first, and that many bytes of content. Each record gives a line: the answer's
-// number and, where that is 1, label, stamp or `-`, and data, each after a space. An accepted group has a second line:
-// `same` where writing those fields gives the group that was read, and `other` where it does not. The records, and the
-// lines to expect of them, are made from the cases in groups.tsv by the script `make`.
+// number, the place that it tells and, where the number is 1, label, stamp or `-`, and data, each after a space. An accepted
+// group has a second line: `same` where writing those fields gives the group that was read, and `other` where it does not.
+// The records, and the lines to expect of them, are made from the cases in groups.tsv by the script `make`.
 //
 // usage: ./espandim worked < RECORDS
 use characters::CR;
@@ -26,10 +26,15 @@ fn end_line() -> bool {
     print(b"\n")
 }
 
-fn show_number(number: u8) -> bool {
+fn show_number(number: u64) -> bool {
     let mut text = [0u8; 20];
-    let count = io::decimal(number as u64, &mut text);
+    let count = io::decimal(number, &mut text);
     print(&text[..count])
+}
+
+// The number of an answer, and its place.
+fn show_told(number: u8, place: usize) -> bool {
+    show_number(number as u64) && print(b" ") && show_number(place as u64)
 }
 
 // A field of a line, after the space that parts it from what stands before.
@@ -103,10 +108,12 @@ fn show_accepted(mode: u8, label: &[u8], stamp: &[u8], data: &[u8], content: &[u
 
 // The lines of one group.
 fn show(mode: u8, content: &[u8]) -> bool {
-    let judged = groups::judge(mode, content);
+    let judgement = groups::judge(mode, content);
+    let judged = judgement.judged;
+    let place = judgement.place;
     let verdict = judged.verdict;
     let number = groups::number_of(verdict);
-    if !show_number(number) {
+    if !show_told(number, place) {
         return false;
     }
     if number != 1 {

@@ -136,7 +136,7 @@ const GROUPS: [(&str, u8, &str, &str); 114] = [
 ];
 
 /// The lengths of data, as 2.9.3 gives them with the units of Tableau 10.
-const LENGTHS: [(&str, usize, usize); 21] = [
+pub(super) const LENGTHS: [(&str, usize, usize); 21] = [
     ("TRAME", 4, 4),
     ("ADS", 12, 12),
     ("MESURES1 MESURES2", 10, 10),
@@ -178,14 +178,14 @@ const LENGTHS: [(&str, usize, usize); 21] = [
 ];
 
 /// Each label with its least and its most characters.
-fn labels_and_lengths() -> impl Iterator<Item = (&'static str, usize, usize)> {
+pub(super) fn labels_and_lengths() -> impl Iterator<Item = (&'static str, usize, usize)> {
     LENGTHS.into_iter().flat_map(|(labels, least, most)| {
         let labels = labels.split_ascii_whitespace();
         labels.map(move |label| (label, least, most))
     })
 }
 
-fn rule_of(label: &str) -> &'static Rule {
+pub(super) fn rule_of(label: &str) -> &'static Rule {
     find_rule(Mode::Business, label.as_bytes()).expect(label)
 }
 
@@ -430,7 +430,7 @@ fn as_written(number: u8) -> u8 {
 
 /// The sub-chapters of 2.9.3 once more, each taken apart by hand from its end.
 /// It is here only to hold the formats against it.
-fn fits_by_hand(label: &str, data: &str) -> bool {
+pub(super) fn fits_by_hand(label: &str, data: &str) -> bool {
     let is_text = |text: &str| text.bytes().all(|one| (b' '..=b'~').contains(&one));
     let number = |text: &str, most: usize| {
         (1..=most).contains(&text.len()) && text.bytes().all(|one| one.is_ascii_digit())
@@ -674,7 +674,7 @@ fn m_100_a_line_of_the_station() {
     assert_eq!(station.deliver(5, &frame), Ok(()));
     let entries: [&[u8]; 4] = [
         b"\x01\x02\x00\x05PS36kVA",
-        b"\x0E\x00\x00\x00",
+        b"\x0E\x00\x00\x0B",
         b"\x01\x04\x00\x11DATE25/12/08 22:35:18",
         b"\x03\x00\x00\x00",
     ];
@@ -706,7 +706,7 @@ fn m_100_a_line_of_the_station() {
     // and with 0x20 that is the bracket 0x5B, with the parity bit 0xDB.
     assert_eq!(
         replay(&log),
-        "O 0\nO 19\nJ 1 5053 - 33366b5641\nW 0 10 0a5053a036ebd7a0db8d\n"
+        "O 0\nO 19\nJ 1 5053 - 33366b5641 0\nW 0 10 0a5053a036ebd7a0db8d\n"
     );
 }
 

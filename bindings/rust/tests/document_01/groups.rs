@@ -2,7 +2,8 @@
 
 use crate::wire::{content, frame, group, listing, ETX, STX};
 use espandim::{
-    judge, judge_raw, write, write_raw, Answer, Group, Mode, Notice, Refusal, Station, MOST_WRITTEN,
+    judge, judge_raw, write, write_raw, Answer, Fault, Group, Mode, Notice, Refusal, Station,
+    MOST_WRITTEN,
 };
 
 use Mode::{Business, Historic, Standard};
@@ -10,6 +11,18 @@ use Mode::{Business, Historic, Standard};
 /// A group's fields.
 fn fields<'a>(label: &'a [u8], stamp: &'a [u8], data: &'a [u8]) -> Group<'a> {
     Group { label, stamp, data }
+}
+
+/// What judging tells of a group that is refused with no place in its content.
+fn nowhere<'a>(refusal: Refusal) -> Result<Group<'a>, Fault> {
+    let place = None;
+    Err(Fault { refusal, place })
+}
+
+/// What it tells of one whose stamp (12) or data (14) went wrong at this place.
+pub fn wrong_at<'a>(place: usize, refusal: Refusal) -> Result<Group<'a>, Fault> {
+    let place = Some(place);
+    Err(Fault { refusal, place })
 }
 
 /// "Figures to hold it against".
@@ -21,10 +34,16 @@ fn the_figures_p1_to_p9() {
     let smaxsn = fields(b"SMAXSN", stamp, b"01200");
     // P1 and P2
     assert_eq!(judge(Standard, b"URMS1\t230\t?"), Ok(urms1));
-    assert_eq!(judge(Standard, b"URMS1\t230\t6"), Err(Refusal::CheckWrong));
+    assert_eq!(
+        judge(Standard, b"URMS1\t230\t6"),
+        nowhere(Refusal::CheckWrong)
+    );
     // P3 and P4
     assert_eq!(judge(Historic, b"PAPP 00750 -"), Ok(papp));
-    assert_eq!(judge(Historic, b"PAPP 00750 M"), Err(Refusal::CheckWrong));
+    assert_eq!(
+        judge(Historic, b"PAPP 00750 M"),
+        nowhere(Refusal::CheckWrong)
+    );
     // P5: the check character is SP.
     let iinst = fields(b"IINST", b"", b"009");
     assert_eq!(judge(Historic, b"IINST 009  "), Ok(iinst));
@@ -38,9 +57,9 @@ fn the_figures_p1_to_p9() {
     let content = b"DATE\tH081225223518\t\tH";
     assert_eq!(judge(Standard, content), Ok(fields(b"DATE", stamp, b"")));
     // P9
-    assert_eq!(judge(Historic, b""), Err(Refusal::Misshapen));
-    assert_eq!(judge(Standard, b""), Err(Refusal::Misshapen));
-    assert_eq!(judge(Business, b""), Err(Refusal::Misshapen));
+    assert_eq!(judge(Historic, b""), nowhere(Refusal::Misshapen));
+    assert_eq!(judge(Standard, b""), nowhere(Refusal::Misshapen));
+    assert_eq!(judge(Business, b""), nowhere(Refusal::Misshapen));
     assert_eq!(Refusal::CheckWrong.number(), 10);
     assert_eq!(Refusal::Misshapen.number(), 9);
 }
@@ -59,13 +78,13 @@ fn judging_refuses_with_19_before_8_before_the_rest() {
     let long = [b'A'; 129];
     for mode in [3, 4, 255, 256, 257, 258, u32::MAX] {
         for content in [&long[..], b"", b"URMS1\t230\t?", b"PREAVIS DEP 3"] {
-            assert_eq!(judge_raw(mode, content), Err(Refusal::ModeUnknown));
+            assert_eq!(judge_raw(mode, content), nowhere(Refusal::ModeUnknown));
         }
     }
     assert_eq!(Refusal::ModeUnknown.number(), 19);
     for mode in 0..3 {
-        assert_eq!(judge_raw(mode, &long), Err(Refusal::TooLong));
-        assert_eq!(judge_raw(mode, &long[..128]), Err(Refusal::Misshapen));
+        assert_eq!(judge_raw(mode, &long), nowhere(Refusal::TooLong));
+        assert_eq!(judge_raw(mode, &long[..128]), nowhere(Refusal::Misshapen));
     }
     assert_eq!(
         judge_raw(1, b"URMS1\t230\t?"),
@@ -88,23 +107,32 @@ fn judging_refuses_stamps_widths_and_kinds() {
     assert!(judge(Standard, &stamped(b"H080229000000")).is_ok());
     assert_eq!(
         judge(Standard, &stamped(b"H090229000000")),
-        Err(Refusal::StampWrong)
+        wrong_at(6, Refusal::StampWrong)
     );
-    assert_eq!(judge(Standard, &stamped(b"")), Err(Refusal::StampWrong));
+    assert_eq!(
+        judge(Standard, &stamped(b"")),
+        wrong_at(6, Refusal::StampWrong)
+    );
     let plain = |data: &[u8]| content(Standard, b"URMS1", b"", data);
-    assert_eq!(judge(Standard, &plain(b"2X")), Err(Refusal::WidthWrong));
-    assert_eq!(judge(Standard, &plain(b"2X0")), Err(Refusal::KindWrong));
+    assert_eq!(judge(Standard, &plain(b"2X")), nowhere(Refusal::WidthWrong));
+    assert_eq!(
+        judge(Standard, &plain(b"2X0")),
+        wrong_at(7, Refusal::KindWrong)
+    );
     // "extra text is 13 or 14" where the label has no stamp.
     let extra = content(Standard, b"URMS1", b"H081225223518", b"230");
-    assert_eq!(judge(Standard, &extra), Err(Refusal::WidthWrong));
+    assert_eq!(judge(Standard, &extra), nowhere(Refusal::WidthWrong));
     // A label of the other mode, and a byte of 128 or more in the place of the final separator.
     let other = content(Historic, b"URMS1", b"", b"230");
-    assert_eq!(judge(Historic, &other), Err(Refusal::LabelUnknown));
-    assert_eq!(judge(Historic, b"PAPP 00750\xA0-"), Err(Refusal::Misshapen));
+    assert_eq!(judge(Historic, &other), nowhere(Refusal::LabelUnknown));
+    assert_eq!(
+        judge(Historic, b"PAPP 00750\xA0-"),
+        nowhere(Refusal::Misshapen)
+    );
 }
 
 /// Document 01's two lists: kind and width, "marked * is stamped", and the labels.
-const STANDARD: [&str; 21] = [
+pub const STANDARD: [&str; 21] = [
     "T12 ADSC",
     "T2 VTIC",
     "T0* DATE",
@@ -127,7 +155,7 @@ const STANDARD: [&str; 21] = [
     "N2 NTARF NJOURF NJOURF+1",
     "T98 PJOURF+1 PPOINTE",
 ];
-const HISTORIC: [&str; 9] = [
+pub const HISTORIC: [&str; 9] = [
     "T12 ADCO",
     "T4 OPTARIF PTEC DEMAIN",
     "N2 ISOUSC PEJP",
@@ -141,7 +169,7 @@ const HISTORIC: [&str; 9] = [
 
 /// Document 003, 2.9: the labels of Tableau 10, and right data of each, the first as short and the last as long as any.
 /// Where the table and 2.9.3 leave a choice (a text or another, `kW` or `kVA`, a comma or a point), there is one of each.
-const BUSINESS: [(&str, &[&str]); 21] = [
+pub const BUSINESS: [(&str, &[&str]); 21] = [
     ("TRAME", &["TEST"]),
     ("ADS", &["021377004518", "ABCDEF ~!@|z"]),
     (
@@ -200,69 +228,151 @@ const BUSINESS: [(&str, &[&str]); 21] = [
 ];
 
 /// Data of a length that their labels have, and which fit none of their forms: 14. A wrong unit or text, a sign or a space
-/// where none stands, and, for TARIFDYN, a length between those of its two texts.
-const UNFIT: [(&str, &[&str]); 20] = [
-    ("TRAME", &["test", "TES ", " TES", "REEL"]),
+/// where none stands, and, for TARIFDYN, a length between those of its two texts. With each goes the index of the data
+/// character that is wrong, by M-104 "the first that no fitting data of that length have there after the same beginning". For
+/// PS `36kVW` that is the `W`: data of five characters are three digits and `kW`, or two and `kVA`. No fitting data of TARIFDYN
+/// have six characters, so there it is the first of all.
+const UNFIT: [(&str, &[(&str, usize)]); 20] = [
+    (
+        "TRAME",
+        &[("test", 0), ("TES ", 3), (" TES", 0), ("REEL", 0)],
+    ),
     (
         "DATE",
         &[
-            "25/12/08 22/35/18",
-            "25/12/08-22:35:18",
-            "25.12.08 22:35:18",
+            ("25/12/08 22/35/18", 11),
+            ("25/12/08-22:35:18", 8),
+            ("25.12.08 22:35:18", 2),
         ],
     ),
     (
         "DebP-1_2",
         &[
-            "25/12/08  2:35:18",
-            "25/12/2008  22:35",
-            "H0812252235180000",
+            ("25/12/08  2:35:18", 9),
+            ("25/12/2008  22:35", 8),
+            ("H0812252235180000", 0),
         ],
     ),
     (
         "EA_s",
         &[
-            "12kWh", "5VAh", "15 Wh", "-15Wh", "1,5Wh", "Wh1", "15WH", "   ",
+            ("12kWh", 2),
+            ("5VAh", 1),
+            ("15 Wh", 2),
+            ("-15Wh", 0),
+            ("1,5Wh", 1),
+            ("Wh1", 0),
+            ("15WH", 3),
+            ("   ", 0),
         ],
     ),
     (
         "ER-_i",
-        &["12VAh", "1kvarh", "12 varh", "+12varh", "12VARH"],
+        &[
+            ("12VAh", 1),
+            ("1kvarh", 1),
+            ("12 varh", 2),
+            ("+12varh", 0),
+            ("12VARH", 2),
+        ],
     ),
-    ("EAPP_s", &["12Wh", "5varh", "5kVAh", "5 VAh"]),
+    (
+        "EAPP_s",
+        &[("12Wh", 1), ("5varh", 1), ("5kVAh", 1), ("5 VAh", 1)],
+    ),
     (
         "TARIFDYN",
-        &["NACTIF", "ACTIFS", "ACTIF ", "INACTIV", "actif", " ACTIF"],
+        &[
+            ("NACTIF", 0),
+            ("ACTIFS", 0),
+            ("ACTIF ", 0),
+            ("INACTIV", 6),
+            ("actif", 0),
+            (" ACTIF", 0),
+        ],
     ),
-    ("PREAVIS1", &["TD HPH", "td-HPH", "HPH-TD", "DEP   "]),
+    (
+        "PREAVIS1",
+        &[("TD HPH", 2), ("td-HPH", 0), ("HPH-TD", 0), ("DEP   ", 0)],
+    ),
     (
         "TDYN1CF",
-        &["25/12/08 22:00:00 HPH", "25/12/08 22/00/00-HPH"],
+        &[("25/12/08 22:00:00 HPH", 17), ("25/12/08 22/00/00-HPH", 11)],
     ),
-    ("MODE", &["controle", "CONTROL ", " CONTROL"]),
-    ("CONFIG", &["CONS", "PRODU", "PROD ", "prod"]),
+    ("MODE", &[("controle", 0), ("CONTROL ", 7), (" CONTROL", 0)]),
+    (
+        "CONFIG",
+        &[("CONS", 0), ("PRODU", 0), ("PROD ", 0), ("prod", 0)],
+    ),
     (
         "PA1_s",
         &[
-            "123456kW", "12kVA", "0 kW", "12H.kW", "12tkW", "12TTkW", "-12kW", "TkW",
+            ("123456kW", 5),
+            ("12kVA", 2),
+            ("0 kW", 1),
+            ("12H.kW", 2),
+            ("12tkW", 2),
+            ("12TTkW", 2),
+            ("-12kW", 0),
+            ("TkW", 0),
         ],
     ),
-    ("EAP_s", &["42Wh", "7kvarh", "42 kWh", "42kVAh", "kWh42"]),
-    ("ER+P-1_i", &["123kWh", "12varh", "12 kvarh"]),
+    (
+        "EAP_s",
+        &[
+            ("42Wh", 1),
+            ("7kvarh", 1),
+            ("42 kWh", 2),
+            ("42kVAh", 2),
+            ("kWh42", 0),
+        ],
+    ),
+    ("ER+P-1_i", &[("123kWh", 1), ("12varh", 1), ("12 kvarh", 2)]),
     (
         "PS",
-        &["123456kW", "36kVW", "36VA", "36TkW", "36 kVA", "kVA"],
+        &[
+            ("123456kW", 5),
+            ("36kVW", 4),
+            ("36VA", 2),
+            ("36TkW", 2),
+            ("36 kVA", 2),
+            ("kVA", 0),
+        ],
     ),
-    ("PMAX_i", &["123456kW", "36kWA", "36kva", "-36kW"]),
-    ("PREAVIS", &["EJP", "DEPX", " DEP", "dep"]),
-    ("PA1MN", &["12TkW", "12kVA", "-12kW", "12 kW"]),
+    (
+        "PMAX_i",
+        &[("123456kW", 5), ("36kWA", 3), ("36kva", 3), ("-36kW", 0)],
+    ),
+    (
+        "PREAVIS",
+        &[("EJP", 0), ("DEPX", 3), (" DEP", 0), ("dep", 0)],
+    ),
+    (
+        "PA1MN",
+        &[("12TkW", 2), ("12kVA", 2), ("-12kW", 0), ("12 kW", 2)],
+    ),
     (
         "TGPHI_s",
         &[
-            "12-,34", "+0,25", "-,25", " 0,25", "0,250", "0;25", "0,2 ", "123456,7",
+            ("12-,34", 2),
+            ("+0,25", 0),
+            ("-,25", 0),
+            (" 0,25", 0),
+            ("0,250", 1),
+            ("0;25", 1),
+            ("0,2 ", 3),
+            ("123456,7", 5),
         ],
     ),
-    ("TGPHI_i", &["--1,00", "-12345,6", "1,000,00", "99999999"]),
+    (
+        "TGPHI_i",
+        &[
+            ("--1,00", 1),
+            ("-12345,6", 5),
+            ("1,000,00", 1),
+            ("99999999", 5),
+        ],
+    ),
 ];
 
 /// "The season is H or E; for DPM1 to DPM3 and FPM1 to FPM3 it is SP and nothing else." Document 02, M-101: h and e "are right
@@ -274,7 +384,7 @@ fn seasons_of(label: &str) -> &'static [u8] {
     }
 }
 
-fn stamp_of(label: &str) -> &'static [u8] {
+pub fn stamp_of(label: &str) -> &'static [u8] {
     match label {
         _ if seasons_of(label) == b" " => b" 081225223518",
         "SMAXIN" | "UMOY2" | "CCAIN-1" => b"E080629223518",
@@ -283,7 +393,7 @@ fn stamp_of(label: &str) -> &'static [u8] {
 }
 
 /// Data of a kind and width, with the first and the last character of the kind in it.
-fn data_of(kind: &str, width: usize) -> Vec<u8> {
+pub fn data_of(kind: &str, width: usize) -> Vec<u8> {
     let characters: &[u8] = match kind {
         "N" => b"09",
         "X" => b"F0A9",
@@ -387,7 +497,8 @@ fn every_season_is_right_or_wrong_by_its_label() {
                     assert_eq!(judge(Standard, &content), Ok(group));
                     assert_eq!(written.unwrap().as_bytes(), crate::wire::group(&content));
                 } else {
-                    assert_eq!(judge(Standard, &content), Err(Refusal::StampWrong));
+                    let wrong = wrong_at(label.len() + 1, Refusal::StampWrong);
+                    assert_eq!(judge(Standard, &content), wrong);
                     assert_eq!(written.unwrap_err(), Refusal::StampWrong);
                 }
             }
@@ -420,16 +531,27 @@ fn a_line_shows_the_season_letter_as_it_came() {
         expected.push("1 DPM1  250118060000 00".to_string());
         expected.push("2".to_string());
     }
-    expected.extend(["12", "3"].map(String::from));
+    expected.extend(["12 5", "3"].map(String::from));
     assert_eq!(listing(Standard, &bytes), expected);
 }
 
-/// Reader and writer alike refuse these data of a business meter's label.
+/// Reader and writer alike refuse these data of a business meter's label, and the reader tells no place.
 fn refused(label: &str, data: &[u8], refusal: Refusal) {
     let label = label.as_bytes();
     let content = content(Business, label, b"", data);
-    assert_eq!(judge(Business, &content), Err(refusal));
+    assert_eq!(judge(Business, &content), nowhere(refusal));
     assert_eq!(write(Business, label, b"", data).unwrap_err(), refusal);
+}
+
+/// Reader and writer alike refuse these data as 14, and the reader tells that the data character of this index is wrong.
+fn unfit(label: &str, data: &[u8], index: usize) {
+    let place = label.len() + 1 + index;
+    let label = label.as_bytes();
+    let content = content(Business, label, b"", data);
+    let wrong = wrong_at(place, Refusal::KindWrong);
+    assert_eq!(judge(Business, &content), wrong, "{data:?}");
+    let written = write(Business, label, b"", data);
+    assert_eq!(written.unwrap_err(), Refusal::KindWrong);
 }
 
 #[test]
@@ -462,13 +584,13 @@ fn what_is_written_for_every_label_of_a_business_meter_reads_back() {
 
 #[test]
 fn data_that_fit_no_form_of_a_business_meters_label_are_14() {
-    for (label, unfit) in UNFIT {
-        for data in unfit {
-            refused(label, data.as_bytes(), Refusal::KindWrong);
+    for (label, wrong) in UNFIT {
+        for (data, index) in wrong {
+            unfit(label, data.as_bytes(), *index);
         }
     }
     // Eight characters are right with the `T` of a point that was cut short; PA1MN has no such form, and at most seven.
-    refused("PA1_s", b"123456kW", Refusal::KindWrong);
+    unfit("PA1_s", b"123456kW", 5);
     refused("PA1MN", b"123456kW", Refusal::WidthWrong);
     // No field takes a character outside 0x20 to 0x7E.
     for (names, right) in BUSINESS {
@@ -478,7 +600,7 @@ fn data_that_fit_no_form_of_a_business_meters_label_are_14() {
                 for character in [0x00, 0x09, 0x1F, 0x7F, 0x80, 0xA0, 0xFF] {
                     let mut data = most.to_vec();
                     data[place] = character;
-                    refused(label, &data, Refusal::KindWrong);
+                    unfit(label, &data, place);
                 }
             }
         }
@@ -508,7 +630,7 @@ fn a_business_meters_group_takes_no_stamp() {
     }
     // Read, what could be one is part of the data, and so is the separator behind it.
     let stamped = content(Business, b"DATE", b"H081225223518", b"25/12/08 22:35:18");
-    assert_eq!(judge(Business, &stamped), Err(Refusal::WidthWrong));
+    assert_eq!(judge(Business, &stamped), nowhere(Refusal::WidthWrong));
 }
 
 /// Document 003, 2.9.1 and 1.5.2: the sum runs through the last of the data, as that of the historic meters does.
@@ -516,10 +638,16 @@ fn a_business_meters_group_takes_no_stamp() {
 fn spaces_of_a_business_meters_data_are_counted_and_the_final_separator_is_not() {
     let preavis = |data| Ok(fields(b"PREAVIS", b"", data));
     assert_eq!(judge(Business, b"PREAVIS DEP 3"), preavis(b"DEP"));
-    assert_eq!(judge(Business, b"PREAVIS DEP S"), Err(Refusal::CheckWrong));
+    assert_eq!(
+        judge(Business, b"PREAVIS DEP S"),
+        nowhere(Refusal::CheckWrong)
+    );
     // The space that some meters send behind DEP is data.
     assert_eq!(judge(Business, b"PREAVIS DEP  S"), preavis(b"DEP "));
-    assert_eq!(judge(Business, b"PREAVIS DEP  3"), Err(Refusal::CheckWrong));
+    assert_eq!(
+        judge(Business, b"PREAVIS DEP  3"),
+        nowhere(Refusal::CheckWrong)
+    );
     // Two spaces more leave the sum as it is.
     let period = |data| Ok(fields(b"PTCOUR1", b"", data));
     assert_eq!(judge(Business, b"PTCOUR1 P ^"), period(b"P"));
@@ -535,8 +663,8 @@ fn spaces_of_a_business_meters_data_are_counted_and_the_final_separator_is_not()
     let energy = fields(b"EAPP_s", b"", b"18VAh");
     assert_eq!(judge(Business, b"EAPP_s 18VAh  "), Ok(energy));
     // No data at all: the separator behind the label is not the final one.
-    assert_eq!(judge(Business, b"PTCOUR1  N"), Err(Refusal::WidthWrong));
-    assert_eq!(judge(Business, b"PTCOUR1 N"), Err(Refusal::Misshapen));
+    assert_eq!(judge(Business, b"PTCOUR1  N"), nowhere(Refusal::WidthWrong));
+    assert_eq!(judge(Business, b"PTCOUR1 N"), nowhere(Refusal::Misshapen));
 }
 
 /// The labels of a mode.
@@ -592,7 +720,8 @@ fn only_the_very_bytes_of_a_label_find_it() {
                 continue;
             }
             for data in [&b""[..], b"123456789"] {
-                let judged = judge(mode, &content(mode, &text, b"", data)).err();
+                let content = content(mode, &text, b"", data);
+                let judged = judge(mode, &content).err().map(Refusal::from);
                 assert_eq!(judged == unknown, missing, "{mode:?} {text:?} {data:?}");
             }
         }
@@ -634,7 +763,7 @@ fn a_label_that_is_not_in_the_business_meters_list_is_11() {
     for (names, right) in BUSINESS {
         for label in names.split(' ') {
             let content = content(Historic, label.as_bytes(), b"", right[0].as_bytes());
-            assert_eq!(judge(Historic, &content), Err(Refusal::LabelUnknown));
+            assert_eq!(judge(Historic, &content), nowhere(Refusal::LabelUnknown));
         }
     }
 }

@@ -1,4 +1,4 @@
-//! "One line": each of the numbers 1 to 14, as a line tells them.
+//! "One line": each of the numbers 1 to 14, as a line tells them, with the places of document 02, M-104.
 
 use crate::wire::{content, frame, group, listing, CR, EOT, ETX, LF, STX};
 use espandim::{Mode, Notice};
@@ -48,28 +48,27 @@ fn groups_are_restarted_and_damaged() {
 
 #[test]
 fn a_refused_group_flaws_its_frame() {
-    // Each content, made right but for the one thing, and the number that it is refused with.
+    // Each content, made right but for the one thing, and what its line says of it.
     let standard = |label: &[u8], data: &[u8]| content(Mode::Standard, label, b"", data);
-    let cases: [(Vec<u8>, u32); 8] = [
-        (vec![b'A'; 129], 8),
-        (vec![b'A'; 128], 9),
-        (Vec::new(), 9),
-        (b"URMS1\t230\t6".to_vec(), 10), // P2
-        (standard(b"PAPP", b"00750"), 11),
+    let cases: [(Vec<u8>, &str); 8] = [
+        (vec![b'A'; 129], "8"),
+        (vec![b'A'; 128], "9"),
+        (Vec::new(), "9"),
+        (b"URMS1\t230\t6".to_vec(), "10"), // P2
+        (standard(b"PAPP", b"00750"), "11"),
         (
             content(Mode::Standard, b"UMOY1", b"H090229000000", b"230"),
-            12,
+            "12 6",
         ), // P11
-        (standard(b"URMS1", b"2X"), 13),
-        (standard(b"URMS1", b"2X0"), 14),
+        (standard(b"URMS1", b"2X"), "13"),
+        (standard(b"URMS1", b"2X0"), "14 7"),
     ];
-    for (refused, number) in cases {
+    for (refused, said) in cases {
         let bytes = frame(&[&refused, P1]);
         assert_eq!(
             listing(Mode::Standard, &bytes),
-            [&number.to_string(), "1 URMS1 - 230", "3"]
+            [said, "1 URMS1 - 230", "3"]
         );
-        assert_eq!(Notice::from_number(number).unwrap().number(), number);
     }
 }
 
@@ -114,25 +113,25 @@ fn a_refused_group_flaws_a_business_meters_frame() {
         (b"PREAVIS DEP S".to_vec(), "10"), // the final separator counted
         (business(b"PAPP", b"00750"), "11"),
         (business(b"PA1MN", b"123456kW"), "13"),
-        (business(b"PA1_s", b"123456kW"), "14"),
-        (business(b"TARIFDYN", b"NACTIF"), "14"),
+        (business(b"PA1_s", b"123456kW"), "14 11"),
+        (business(b"TARIFDYN", b"NACTIF"), "14 9"),
         // What would be a stamp elsewhere is part of the data here.
         (business(b"PS", b"H081225223518 36kVA"), "13"),
     ];
-    for (refused, number) in cases {
+    for (refused, said) in cases {
         let bytes = frame(&[&refused, b"PREAVIS DEP 3"]);
         assert_eq!(
             listing(Mode::Business, &bytes),
-            [number, "1 PREAVIS - DEP", "3"]
+            [said, "1 PREAVIS - DEP", "3"]
         );
     }
 }
 
 #[test]
-fn a_notice_has_one_of_the_numbers_2_to_14() {
+fn a_notice_has_one_of_the_numbers_2_to_7() {
     for number in 0..300 {
         let notice = Notice::from_number(number);
-        let expected = (2..=14).contains(&number).then_some(number);
+        let expected = (2..=7).contains(&number).then_some(number);
         assert_eq!(notice.map(Notice::number), expected);
     }
 }

@@ -1,6 +1,6 @@
 //! "Numbers": what they mean, in words that the header, the README and this crate share.
 
-use espandim::{words, Mode, Notice, Refusal};
+use espandim::{words, Fault, Mode, Notice, Refusal};
 
 const HEADER: &str = include_str!("../../../../include/espandim.h");
 const README: &str = include_str!("../../../../README.md");
@@ -87,6 +87,28 @@ fn notices_and_refusals_say_their_words_and_their_number() {
     let (notice, refusal) = (Notice::FrameFlawed, Refusal::LineUnknown);
     assert_eq!(notice.to_string(), "frame ended, flawed (3)");
     assert_eq!(refusal.to_string(), "line number 8 or more (16)");
+}
+
+#[test]
+fn a_fault_says_its_refusal_and_its_place() {
+    for number in 8..=19 {
+        let refusal = Refusal::from_number(number).unwrap();
+        let fault = |place| Fault { refusal, place };
+        assert_eq!(fault(None).number(), number);
+        assert_eq!(fault(None).to_string(), refusal.to_string());
+        assert_eq!(
+            fault(Some(125)).to_string(),
+            format!("{refusal}, place 125")
+        );
+        // Whoever asks only why leaves the place behind by `?`.
+        let why = || -> Result<(), Refusal> { Ok(Err(fault(Some(5)))?) };
+        assert_eq!(why(), Err(refusal));
+    }
+    let said: Box<dyn std::error::Error> = Box::new(Fault {
+        refusal: Refusal::StampWrong,
+        place: Some(5),
+    });
+    assert_eq!(said.to_string(), "stamp not right (12), place 5");
 }
 
 #[test]

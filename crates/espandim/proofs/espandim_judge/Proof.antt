@@ -15,7 +15,7 @@ cast-result c = search needs
 
 returns : tie.Need-returns
 returns c =
-    let at-judged = c .before .before .before .before .before in
+    let at-judged = c .before .before .before .before .before .before in
     judges (at-judged .judged .result) _ _ (at-judged .judged .ensures) (c .number-of .ensures)
 
 pub espandim-judge-spec : {M : Type 1} → statement M

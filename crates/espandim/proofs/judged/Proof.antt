@@ -1,7 +1,5 @@
 -- A judging, by whether a byte holds the mode.
-use Rattle.groups.specs.Judging.{shown}
-use Rattle.groups.specs.Laws.Unknown.{judging-no-mode}
-use mathlib.Core.Path.{ap, sym}
+use Rattle.espandim.proofs.Telling.{no-mode}
 use native.Mathlib.Omega.{arith}
 use borrow.Author.Needs.{needs}
 use Rattle.espandim.proofs.judged.Statement.{statement}
@@ -19,7 +17,7 @@ returns c = c .judge .ensures
 returns-2 : tie.Need-returns-2
 returns-2 c =
     let g = c .before .before .args in
-    ap shown (sym (judging-no-mode (g .mode) (omega (arith, c .if1 .left)) (g .content .now)))
+    no-mode (g .mode) (omega (arith, c .if1 .left)) (g .content .now)
 
 pub judged-spec : {M : Type 1} → statement M
 judged-spec = tie.close (tie.spec cast-judge judge-requires returns returns-2)

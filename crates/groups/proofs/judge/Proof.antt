@@ -1,8 +1,8 @@
 -- A known mode is read, an unknown one is 19.
-use Rattle.groups.proofs.Views.{chosen-none, chosen-some, in-mode, no-mode}
-use Rattle.groups.specs.Judging.{shown}
+use Rattle.groups.proofs.Telling.{told-in, told-no-mode}
+use Rattle.groups.proofs.Views.{chosen-none, chosen-some}
 use borrow.Author.Needs.{needs}
-use mathlib.Core.Path.{_∙_, ap, sym}
+use mathlib.Core.Path.{_∙_, sym}
 use Rattle.groups.proofs.judge.Statement.{statement}
 use Rattle.groups.proofs.judge.Tie as tie
 
@@ -26,16 +26,16 @@ returns c =
     let at-mode-of = c .before .before .before .before in
     let start = at-mode-of .before .before in
     let g = start .args in
-    c .read .ensures ∙ ap shown (sym (in-mode (g .mode) (g .content .now) _ (chosen-some _ _ (sym
-    (at-mode-of .mode-of .ensures) ∙ c .before .before .chosen .given .1))))
+    c .read .ensures ∙ told-in (g .mode) _ (g .content .now) (chosen-some _ _ (sym
+    (at-mode-of .mode-of .ensures) ∙ c .before .before .chosen .given .1))
 
 returns-2 : tie.Need-returns-2
 returns-2 c =
     let at-mode-of = c .before .before .before in
     let start = at-mode-of .before .before in
     let g = start .args in
-    c .refuse .ensures ∙ ap shown (sym (no-mode (g .mode) (g .content .now) (chosen-none _ (sym
-    (at-mode-of .mode-of .ensures) ∙ c .before .enum-told .given .1))))
+    c .refuse .ensures ∙ told-no-mode (g .mode) (g .content .now) (chosen-none _ (sym
+    (at-mode-of .mode-of .ensures) ∙ c .before .enum-told .given .1))
 
 pub judge-spec : {M : Type 1} → statement M
 judge-spec =

@@ -68,7 +68,7 @@ module _ (number : ℕ) (c : List ℕ) (g : Group) where
 -- ---- Judging and the conditions
 
 -- an answer's number as judging tells it
-told-as : (a : Answer Refusal Group) → numberOf (shown a .verdict) ≡ numberAs 1 a
+pub told-as : (a : Answer Refusal Group) → numberOf (shown a .verdict) ≡ numberAs 1 a
 told-as (refused refusal) = refl
 told-as (given g) = refl
 
@@ -88,7 +88,7 @@ judged-first (suc (suc (suc number))) c = rw (judging-no-mode (suc (suc (suc num
 
 module _ (number : ℕ) (m : Mode) (known : modeOf number ≡ some m) (c : List ℕ) where
   -- in a known mode judging is reading
-  judged-read : judging number c ≡ read m c
+  pub judged-read : judging number c ≡ read m c
   unfolding judging
   judged-read = found-yes _ _ known refl
 

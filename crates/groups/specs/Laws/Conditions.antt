@@ -63,13 +63,13 @@ first-before s (x ∷ c) (suc i) h e =
 
 -- ---- The shape: a first separator that is neither first of all nor final, and a final one
 
-record Shaped (m : Mode) (c : List ℕ) : Type 0 where
-  labelled : 1 ≤ firstAt (separator m) c
-  apart : firstAt (separator m) c + 3 ≤ length c
-  closed : getD c (length c - 2) 0 ≡ separator m
+pub record Shaped (m : Mode) (c : List ℕ) : Type 0 where
+  pub labelled : 1 ≤ firstAt (separator m) c
+  pub apart : firstAt (separator m) c + 3 ≤ length c
+  pub closed : getD c (length c - 2) 0 ≡ separator m
 
 -- a content that is not misshapen has this shape
-shape : (m : Mode) (c : List ℕ) → T (not (misshapen m c)) → Shaped m c
+pub shape : (m : Mode) (c : List ℕ) → T (not (misshapen m c)) → Shaped m c
 unfolding misshapen
 shape m c t =
     let f = firstAt (separator m) c in
@@ -107,7 +107,7 @@ module _ (c : List ℕ) (k j : ℕ) (h : k + j ≤ length c) where
       rw (length-drop, getD-drop, e)
 
   -- without its last j it is the text without its last j, from there on
-  rest-front : take (length (drop k c) - j) (drop k c) ≡ drop k (take (length c - j) c)
+  pub rest-front : take (length (drop k c) - j) (drop k c) ≡ drop k (take (length c - j) c)
   rest-front =
       let e : length c - j ≡ k + (length c - k - j) = omega arith in
       let n : length (take k c) ≡ k = length-take-le k c (omega arith) in

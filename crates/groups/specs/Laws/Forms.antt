@@ -13,7 +13,7 @@ use mir.Facts.{and-yes, yes-and, or-yes}
 use Rattle.characters.specs.Answers.{every, pick, pick-yes, by-pick}
 use Rattle.groups.specs.Kinds.{ofKind}
 use Rattle.groups.specs.Forms.{Form, pictureOf, takes, lastOf, matches, hasLength, fits, someFits}
-use Rattle.groups.specs.Stored.{agreed, reach, furthest}
+use Rattle.groups.specs.Place.{agreed, reach, furthest}
 use Rattle.groups.specs.Laws.Tests.{split}
 use Rattle.groups.specs.declared.table.Kind.{Kind}
 use Rattle.groups.specs.declared.table.Kind.the-variants.{Digits, Hex, Text}
@@ -130,7 +130,7 @@ pub or-right : (a b : Bool) → T b → T (a || b)
 or-right true b t = tt
 or-right false b t = t
 
-furthest-most : (fs : List Form) (d : List ℕ) → furthest fs d ≤ suc (length d)
+pub furthest-most : (fs : List Form) (d : List ℕ) → furthest fs d ≤ suc (length d)
 unfolding furthest
 furthest-most [] d = omega arith
 furthest-most (f ∷ fs) d = omega (arith, reach-most f d, furthest-most fs d)

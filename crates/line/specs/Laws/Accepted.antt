@@ -12,6 +12,7 @@ use Rattle.characters.specs.Answers.{Answer, refused, given, not-given, pick}
 use Rattle.groups.specs.Modes.{modeOf}
 use Rattle.groups.specs.Groups.{Group}
 use Rattle.groups.specs.Judging.{judging}
+use Rattle.groups.specs.Place.{placeOf}
 use Rattle.groups.specs.Right.{RightGroup}
 use Rattle.groups.specs.Laws.ByNumber.{judged-short}
 use Rattle.groups.specs.Promises as groups
@@ -23,21 +24,21 @@ use Rattle.line.specs.Between.{anyDamaged, textOf, groupAnswer}
 use Rattle.line.specs.declared.Notice.the-variants.{GroupDamaged, GroupRefused}
 
 -- a group that is accepted is not damaged, and the reader accepted it
-given-by : (damaged overlong : Bool) (a : Answer Refusal Group) (g : Group)
-    → pick damaged (refused GroupDamaged) (pick overlong (refused (GroupRefused TooLong)) (ofGroup a)) ≡ given g
+given-by : (damaged overlong : Bool) (a : Answer Refusal Group) (place : ℕ) (g : Group)
+    → pick damaged (refused GroupDamaged) (pick overlong (refused (GroupRefused TooLong 0)) (ofGroup a place)) ≡ given g
     → (damaged ≡ false) × (a ≡ given g)
 unfolding pick
-given-by true overlong a g e = not-given e
-given-by false true a g e = not-given e
-given-by false false (refused refusal) g e = not-given e
-given-by false false (given own) g e = (refl, cc)
+given-by true overlong a place g e = not-given e
+given-by false true a place g e = not-given e
+given-by false false (refused refusal) place g e = not-given e
+given-by false false (given own) place g e = (refl, cc)
 
 -- bytes are accepted as a group exactly when none of them is damaged and the reader accepts their characters
 pub group-accepted : (mode : ℕ) (bs : List ℕ) (g : Group)
     → (groupAnswer mode bs ≡ given g) ↔ ((anyDamaged bs ≡ false) × (judging mode (textOf bs) ≡ given g))
 unfolding groupAnswer pick
 group-accepted mode bs g = (
-  given-by (anyDamaged bs) (ltb 128 (length (textOf bs))) (judging mode (textOf bs)) g,
+  given-by (anyDamaged bs) (ltb 128 (length (textOf bs))) (judging mode (textOf bs)) (placeOf mode (textOf bs)) g,
   λ (sound, e). rw (sound, le-ltb 128 (length (textOf bs)) (judged-short mode (textOf bs) g e), e),
 )
 

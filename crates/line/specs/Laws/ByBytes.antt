@@ -6,7 +6,7 @@ use mathlib.Core.List.{List, [], _∷_, _++_, append-nil, map}
 use Prim.Native.Nat.{ℕ, suc}
 use lib.Dec.{T}
 use lib.Seq.{append-snoc}
-use Rattle.characters.specs.Answers.{given, pick}
+use Rattle.characters.specs.Answers.{given, refused, pick}
 use Rattle.characters.specs.Wire.{STX, ETX, EOT, LF, CR}
 use Rattle.groups.specs.Modes.{modeOf}
 use Rattle.groups.specs.Groups.{Group}
@@ -17,7 +17,7 @@ use Rattle.line.specs.Rules.{frameEnd, move}
 use Rattle.line.specs.Lines.{LineAnswer, State, Step, does, step, after, andThen, answers, outside, inFrame, onward, untilAnswer}
 use Rattle.line.specs.Between.{noControl, isDamaged, anyDamaged, withText, textOf, groupAnswer}
 use Rattle.line.specs.Entries.{Entry, accepted, only, entryList}
-use Rattle.line.specs.Numbers.{shown, shownIf, numberOfNotice}
+use Rattle.line.specs.Numbers.{shown, shownIf}
 use Rattle.line.specs.ByBytes.{is, openSince, openFrame, openGroup, flaws, flawedBehind, isFlawed, dueInFrame, answerDue, answersDue, isAnswered, upToAnswer}
 use Rattle.line.specs.Laws.Bytes.{step-at}
 use Rattle.line.specs.Laws.Groups.{keeps, added-keeps, verdict-is}
@@ -99,7 +99,7 @@ from-outside mode m b Damaged t = rw (t .0, t .1, t .2)
 from-outside mode m b (Text c) t = rw (t .0, t .1, t .2)
 
 -- "2 if no flaw, else 3", said twice
-end-is : (flaw : Bool) → only (numberOfNotice (frameEnd flaw)) ≡ pick flaw (only 3) (only 2)
+end-is : (flaw : Bool) → shown (refused (frameEnd flaw)) ≡ pick flaw (only 3) (only 2)
 unfolding pick
 end-is true = refl
 end-is false = refl

@@ -19,6 +19,8 @@ use Rattle.groups.specs.Numbers.{numberOfRefusal}
 use Rattle.groups.specs.Conditions.{conditions, fieldsAt}
 use Rattle.groups.specs.Laws.Named.{refusal-number}
 use Rattle.groups.specs.Laws.ByNumber.{accepted-due, refused-due}
+use Rattle.groups.specs.Place.{placeOf, placeBy}
+use Rattle.groups.specs.Laws.Place.{place-known, others-told, no-place-by}
 use Rattle.groups.specs.Laws.Known.{judged-long, never-seven, eight-long, eight-short}
 use Rattle.groups.specs.Laws.Tests.{split}
 use Rattle.groups.specs.declared.Mode.{Mode}
@@ -27,9 +29,9 @@ use Rattle.groups.specs.declared.Refusal.the-variants.{TooLong}
 use Rattle.line.specs.Symbols.{soundSymbol, symbolOf}
 use Rattle.line.specs.Lines.{LineAnswer, isRefused, ofGroup}
 use Rattle.line.specs.Between.{isInner, noControl, isDamaged, anyDamaged, withText, textOf, groupAnswer}
-use Rattle.line.specs.Entries.{accepted, only}
+use Rattle.line.specs.Entries.{accepted, refusedAt}
 use Rattle.line.specs.Numbers.{numberOfNotice, shown}
-use Rattle.line.specs.ByBytes.{numbered, groupDue}
+use Rattle.line.specs.ByBytes.{numbered, dueBy, groupDue}
 use Rattle.line.specs.declared.Notice.{Notice}
 use Rattle.line.specs.declared.Notice.the-variants.{
   FrameSound,
@@ -101,30 +103,36 @@ text-all (b ∷ bs) t i =
 -- ---- Its answer
 
 -- a refusal is not numbered 1
-refusal-only : (r : Refusal) (g : Group) → numbered (numberOfRefusal r) g ≡ only (numberOfRefusal r)
+refusal-only : (r : Refusal) (g : Group) (place : ℕ) → numbered (numberOfRefusal r) g place ≡ refusedAt (numberOfRefusal r) place
 unfolding pick
-refusal-only r g = rw (ne-eqb (numberOfRefusal r) 1 (λ e. omega (arith, refusal-number r)))
+refusal-only r g place = rw (ne-eqb (numberOfRefusal r) 1 (λ e. omega (arith, refusal-number r)))
 
 -- what the groups' reader says of a content, with its number
 judged-shown : (mode : ℕ) (m : Mode) (c : List ℕ) → modeOf mode ≡ some m
-    → shown (ofGroup (judging mode c)) ≡ numbered (firstOf 1 (conditions m c)) (fieldsAt m c)
+    → shown (ofGroup (judging mode c) (placeOf mode c)) ≡ dueBy m c (firstOf 1 (conditions m c))
 unfolding pick
 judged-shown mode m c k = go (judging mode c) refl
   where
     go : (a : Answer Refusal Group) → judging mode c ≡ a
-        → shown (ofGroup a) ≡ numbered (firstOf 1 (conditions m c)) (fieldsAt m c)
+        → shown (ofGroup a (placeOf mode c)) ≡ dueBy m c (firstOf 1 (conditions m c))
     go (given g) e = let (one, fields) = accepted-due mode m k c g e in rw (one, fields)
-    go (refused r) e = rw (refused-due mode m k c r e) (sym (refusal-only r (fieldsAt m c)))
+    go (refused r) e =
+        rw (place-known mode m k c, refused-due mode m k c r e) (sym (refusal-only r (fieldsAt m c) (placeBy m c (numberOfRefusal r))))
 
 -- a content over 128 is 8 to the groups' reader too
 long-first : (mode : ℕ) (m : Mode) (c : List ℕ) → modeOf mode ≡ some m
-    → pick (ltb 128 (length c)) (refused (GroupRefused TooLong)) (ofGroup (judging mode c)) ≡ ofGroup (judging mode c)
+    → pick (ltb 128 (length c)) (refused (GroupRefused TooLong 0)) (ofGroup (judging mode c) (placeOf mode c))
+    ≡ ofGroup (judging mode c) (placeOf mode c)
 unfolding pick
 long-first mode m c k = go (ltb 128 (length c)) refl
   where
     go : (long : Bool) → ltb 128 (length c) ≡ long
-        → pick long (refused (GroupRefused TooLong)) (ofGroup (judging mode c)) ≡ ofGroup (judging mode c)
-    go true e = rw (judged-long mode m k c (ltb→lt 128 (length c) (from-true e)))
+        → pick long (refused (GroupRefused TooLong 0)) (ofGroup (judging mode c) (placeOf mode c))
+        ≡ ofGroup (judging mode c) (placeOf mode c)
+    go true e =
+        let long = judged-long mode m k c (ltb→lt 128 (length c) (from-true e)) in
+        let nowhere : placeOf mode c ≡ 0 = others-told mode c (rw long tt) (rw long tt) in
+        rw (long, nowhere)
     go false e = refl
 
 -- the answer to the bytes of a group, with its number, is the one that is due to them
@@ -135,12 +143,13 @@ group-shown mode m bs k i = rw (damaged-all bs) (go (every isSound bs) refl)
   where
     go : (sound : Bool) → every isSound bs ≡ sound
         → shown (pick (not sound) (refused GroupDamaged)
-        (pick (ltb 128 (length (textOf bs))) (refused (GroupRefused TooLong)) (ofGroup (judging mode (textOf bs)))))
-        ≡ numbered (pick (not sound) 7 (firstOf 1 (conditions m (map characterOf bs)))) (fieldsAt m (map characterOf bs))
+        (pick (ltb 128 (length (textOf bs))) (refused (GroupRefused TooLong 0))
+        (ofGroup (judging mode (textOf bs)) (placeOf mode (textOf bs)))))
+        ≡ dueBy m (map characterOf bs) (pick (not sound) 7 (firstOf 1 (conditions m (map characterOf bs))))
     go true e =
         rw (text-all bs (rw e tt) i, long-first mode m (map characterOf bs) k)
         (judged-shown mode m (map characterOf bs) k)
-    go false e = refl
+    go false e = rw (no-place-by m (map characterOf bs) 7 tt tt)
 
 -- an answer is refused exactly when its number is not 1
 refused-notice : (n : Notice) → true ≡ not (eqb (numberOfNotice n) 1)
@@ -150,7 +159,14 @@ refused-notice FrameInterrupted = refl
 refused-notice FrameRestarted = refl
 refused-notice GroupRestarted = refl
 refused-notice GroupDamaged = refl
-refused-notice (GroupRefused r) = rw (ne-eqb (numberOfRefusal r) 1 (λ e. omega (arith, refusal-number r)))
+refused-notice (GroupRefused r place) = rw (ne-eqb (numberOfRefusal r) 1 (λ e. omega (arith, refusal-number r)))
+
+pub notice-number : (n : Notice) → eqb (numberOfNotice n) 1 ≡ false
+notice-number n = go (eqb (numberOfNotice n) 1) (refused-notice n)
+  where
+    go : (b : Bool) → true ≡ not b → b ≡ false
+    go true e = e
+    go false e = refl
 
 pub refused-number : (a : LineAnswer) → isRefused a ≡ not (eqb (shown a .number) 1)
 refused-number (given g) = refl
@@ -159,11 +175,11 @@ refused-number (refused notice) = refused-notice notice
 -- ---- 7 and 8
 
 -- an answer by its number has this number
-numbered-is : (n : ℕ) (g : Group) → numbered n g .number ≡ n
+pub numbered-is : (n : ℕ) (g : Group) (place : ℕ) → numbered n g place .number ≡ n
 unfolding pick
-numbered-is n g = go (eqb n 1) refl
+numbered-is n g place = go (eqb n 1) refl
   where
-    go : (one : Bool) → eqb n 1 ≡ one → pick one (accepted g) (only n) .number ≡ n
+    go : (one : Bool) → eqb n 1 ≡ one → pick one (accepted g) (refusedAt n place) .number ≡ n
     go true e = sym (eqb-true n 1 e)
     go false e = refl
 
@@ -171,9 +187,9 @@ numbered-is n g = go (eqb n 1) refl
 due-number : (m : Mode) (bs : List ℕ) (sound : Bool) → every isSound bs ≡ sound
     → groupDue m bs .number ≡ pick (not sound) 7 (firstOf 1 (conditions m (map characterOf bs)))
 unfolding groupDue firstOf
-due-number m bs sound e = rw (numbered-is _ (fieldsAt m (map characterOf bs)), e)
+due-number m bs sound e = rw (numbered-is _ (fieldsAt m (map characterOf bs)) _, e)
 
-not-number : {n k : ℕ} {X : Type 0} → T (not (eqb n k)) → n ≡ k → X
+pub not-number : {n k : ℕ} {X : Type 0} → T (not (eqb n k)) → n ≡ k → X
 not-number {n = n} {k = k} t e = absurd (T-not (eqb n k) t (from-true (eq-eqb n k e)))
 
 pub damaged-exactly : (m : Mode) (bs : List ℕ) → (groupDue m bs .number ≡ 7) ↔ T (not (every isSound bs))

@@ -13,11 +13,12 @@ use Rattle.groups.specs.Modes.{isMode}
 use Rattle.groups.specs.Groups.{Group}
 use Rattle.groups.specs.Numbers.{numberOf}
 use Rattle.groups.specs.Judging.{judging, shown}
+use Rattle.groups.specs.Place.{placeOf}
 use Rattle.groups.specs.Laws.ByNumber.{judged-number}
 use Rattle.groups.specs.declared.Refusal.{Refusal}
 use Rattle.line.specs.Rules.{move}
 use Rattle.line.specs.Lines.{LineAnswer, State, ofGroup, verdict, does, step, andThen, answers, outside}
-use Rattle.line.specs.Entries.{numberIn}
+use Rattle.line.specs.Entries.{numberIn, placeIn}
 use Rattle.line.specs.Numbers.{numberOfAnswer, numberOfOpening}
 use Rattle.line.specs.Numbers as Numbers
 use Rattle.line.specs.State.{lineOf, stateOf, openingOf}
@@ -45,9 +46,9 @@ areNumbered none = true
 areNumbered (some a) = isNumbered a
 
 -- the line's number for the reader's word is the reader's
-same-number : (a : Answer Refusal Group) → numberOfAnswer (ofGroup a) ≡ numberOf (shown a .verdict)
-same-number (refused refusal) = refl
-same-number (given g) = refl
+same-number : (a : Answer Refusal Group) (place : ℕ) → numberOfAnswer (ofGroup a place) ≡ numberOf (shown a .verdict)
+same-number (refused refusal) place = refl
+same-number (given g) place = refl
 
 -- a verdict is 7, 8 or the reader's word
 verdict-numbered : (mode : ℕ) → isMode mode ≡ true → (damaged overlong : Bool) (c : List ℕ)
@@ -56,7 +57,7 @@ unfolding verdict
 verdict-numbered mode k damaged overlong c =
     by-pick (λ (a : LineAnswer). T (isNumbered a)) damaged _ _ (λ t. tt) λ t.
     by-pick (λ (a : LineAnswer). T (isNumbered a)) overlong _ _ (λ u. tt) λ u.
-    rw (same-number (judging mode c)) (judged-number mode k c)
+    rw (same-number (judging mode c) (placeOf mode c)) (judged-number mode k c)
 
 -- what a symbol does gives no answer, a notice of 2 to 6, or a verdict
 does-numbered : (mode : ℕ) → isMode mode ≡ true → (c : List ℕ) (p : Phase) (y : Symbol)
@@ -123,6 +124,13 @@ unfolding heardAnswer
 heard-number Nothing content = refl
 heard-number (Accepted fields) content = refl
 heard-number (Told notice) content = refl
+
+-- and its place
+pub heard-place : (h : Heard) (content : List ℕ) → Numbers.placeOf h ≡ placeIn (Numbers.shownIf (heardAnswer h content))
+unfolding heardAnswer
+heard-place Nothing content = refl
+heard-place (Accepted fields) content = refl
+heard-place (Told notice) content = refl
 
 -- ---- A line that is opened
 

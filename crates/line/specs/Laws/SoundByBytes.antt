@@ -129,7 +129,7 @@ is-two (refused FrameInterrupted) t = absurd t
 is-two (refused FrameRestarted) t = absurd t
 is-two (refused GroupRestarted) t = absurd t
 is-two (refused GroupDamaged) t = absurd t
-is-two (refused (GroupRefused r)) t =
+is-two (refused (GroupRefused r place)) t =
     absurd (rw (ne-eqb (numberOfRefusal r) 2 (λ e. omega (arith, refusal-number r))) at t)
 
 two-sound : (o : Option LineAnswer) → (shownIf o ≡ some (only 2)) ↔ (o ≡ some (refused FrameSound))

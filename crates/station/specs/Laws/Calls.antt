@@ -51,7 +51,7 @@ use Rattle.station.specs.History.{
   seen,
 }
 use Rattle.station.specs.OneLine.{closed, lineAfter, turnTold, deliveryNumber, lineSight, lineRun, lineSeen}
-use Rattle.station.specs.Laws.Sheets.{isShort, reads-back}
+use Rattle.station.specs.Laws.Sheets.{isShort, isPlain, reads-back}
 use Rattle.station.specs.Laws.Balance.{run-append, seen-append}
 use Rattle.station.specs.Laws.Views.{
   standsFor,
@@ -61,6 +61,7 @@ use Rattle.station.specs.Laws.Views.{
   one-line,
   turn-view,
   turn-short,
+  turn-plain,
   lineLeft,
   callNumber,
   CallView,
@@ -236,6 +237,13 @@ turns-short (l ∷ ls) (one-line h hs) =
     yes-and (isShort (tells (turning l))) (every isShort (map tells (map turning ls))) (turn-short l h)
     (turns-short ls hs)
 
+-- and a place or a text
+pub turns-plain : (ls : List StationLine) → Longs ls → T (every (λ (x : Told). isPlain (x .entry)) (map tells (map turning ls)))
+turns-plain [] hs = tt
+turns-plain (l ∷ ls) (one-line h hs) =
+    yes-and (isPlain (tells (turning l) .entry)) (every (λ (x : Told). isPlain (x .entry)) (map tells (map turning ls)))
+    (turn-plain l h) (turns-plain ls hs)
+
 -- the sheet tells of line i's turn what the line by itself tells
 sheet-told : (i : ℕ) (s : Station) (rest : List ℕ) → i < 8 → Made s
     → readTurn (sheetOf (map tells (map turning (s .lines))) ++ rest) i ≡ turnTold (standsFor (lineAt s i))
@@ -243,7 +251,7 @@ sheet-told i s rest h m =
     let ts = map turning (s .lines) in
     let n : length (map tells ts) ≡ 8 = length-map ts tells ∙ length-map (s .lines) turning ∙ m .eight in
     let k : i < length (s .lines) = omega (arith, m .eight) in
-    reads-back (map tells ts) n (turns-short (s .lines) (m .longs)) rest i h
+    reads-back (map tells ts) n (turns-short (s .lines) (m .longs)) (turns-plain (s .lines) (m .longs)) rest i h
     ∙ turn-at tells (s .lines) i (zeroLine [] []) idle k
     ∙ turn-view (lineAt s i) (long-at (s .lines) i (zeroLine [] []) (m .longs) k) .told-is
 

@@ -15,7 +15,7 @@ use Rattle.station.specs.History.{Call, serves, gets, run, accountOf}
 use Rattle.station.specs.Due.{turnDue}
 use Rattle.station.specs.Laws.Sheets.{sheet-fits, counts-first, reads-back}
 use Rattle.station.specs.Laws.Views.{turn-view}
-use Rattle.station.specs.Laws.Calls.{Made, long-at, turn-at, turns-short, made-closed, made-run}
+use Rattle.station.specs.Laws.Calls.{Made, long-at, turn-at, turns-short, turns-plain, made-closed, made-run}
 use Rattle.station.specs.Laws.Accounts.{turn-right}
 use Rattle.station.specs.Records.{Station}
 
@@ -46,7 +46,7 @@ round-sheet s sheet m t =
       sheet-fits (toldOf s) eight short,
       refl,
       counts-first (toldOf s) rest eight ∙ same,
-      reads-back (toldOf s) eight short rest,
+      reads-back (toldOf s) eight short (turns-plain (s .lines) (m .longs)) rest,
     )
 
 -- eight turns are the turns of lines 0 to 7

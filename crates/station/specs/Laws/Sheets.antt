@@ -1,17 +1,17 @@
 -- The sheet of a round: it has at most 1,080 bytes, and it gives back what each line's turn was.
 use mathlib.Core.Path.{_≡_, refl, sym, ap, _∙_, subst}
-use mathlib.Core.Bool.{Bool}
+use mathlib.Core.Bool.{Bool, true, false, _&&_}
 use mathlib.Core.Option.{Option, none, some}
 use mathlib.Core.List.{List, [], _∷_, _++_, append-assoc}
 use Prim.Native.Nat.{ℕ, zero, suc, _+_, _*_, _≤_, _<_}
 use native.Mathlib.Omega.{arith}
 use native.Mathlib.Nat.{add-zero, add-assoc}
-use lib.Dec.{T, leb, leb→le, lit≤}
+use lib.Dec.{T, eqb, leb, eqb→eq, leb→le, lit≤}
 use lib.ListN.{length, take, drop, getD, length-append, length-map, List·getD-map, List·getD-append}
 use lib.Seq.{take-at, drop-at, getD-append-add, take-append-seam, drop-append-seam}
 use mir.Facts.{and-yes}
-use borrow.Author.Tests.{ne-eqb}
-use Rattle.characters.specs.Answers.{pick, every}
+use borrow.Author.Tests.{ne-eqb, eqb-true}
+use Rattle.characters.specs.Answers.{pick, every, every-at}
 use Rattle.line.specs.Entries.{Entry}
 use Rattle.station.specs.Sheets.{idle, Told, entryBytes, entryOf, twoBytes, offsetOf, offsets, joined, counts, entries, sheetOf}
 use Rattle.station.specs.Reading.{readEntry, entryAt, readTurn}
@@ -19,6 +19,12 @@ use Rattle.station.specs.Reading.{readEntry, entryAt, readTurn}
 -- an entry takes at most 132 bytes
 abbrev pub isShort : Told → Bool
 isShort t = leb (length (entryOf (t .entry))) 132
+
+-- it is one that a round tells: 1 has no place, and all others have no text
+abbrev pub isPlain : Option Entry → Bool
+isPlain none = true
+isPlain (some e) =
+    pick (eqb (e .number) 1) (eqb (e .place) 0) (eqb (length (e .label)) 0 && eqb (length (e .stamp)) 0 && eqb (length (e .«data»)) 0)
 
 -- ---- Its length
 
@@ -121,10 +127,26 @@ two-bytes (n ∷ ns) (suc i) h b =
 
 -- ---- Reading it
 
--- an entry reads back, whatever its number and whatever follows
-read-entry : (e : Entry) (rest : List ℕ) → readEntry (entryBytes e ++ rest) ≡ some e
-unfolding readEntry entryBytes
-read-entry e rest = simp (append-assoc, take-append-seam, drop-append-seam)
+no-text : (d : List ℕ) → T (eqb (length d) 0) → d ≡ []
+no-text [] t = refl
+no-text (x ∷ d) t = let e = eqb→eq (suc (length d)) 0 t in absurd (omega arith)
+
+-- such an entry reads back, whatever follows
+read-entry : (e : Entry) (rest : List ℕ) → T (isPlain (some e)) → readEntry (entryBytes e ++ rest) ≡ some e
+unfolding readEntry entryBytes pick
+read-entry e rest t = go (eqb (e .number) 1) refl
+  where
+    go : (one : Bool) → eqb (e .number) 1 ≡ one → readEntry (entryBytes e ++ rest) ≡ some e
+    go true q =
+        let u : T (eqb (e .place) 0) = rw q at t in
+        let n = eqb-true (e .number) 1 q in
+        let p = eqb→eq (e .place) 0 u in
+        rw (q, n, p) (simp (append-assoc, take-append-seam, drop-append-seam))
+    go false q =
+        let u : T (eqb (length (e .label)) 0 && eqb (length (e .stamp)) 0 && eqb (length (e .«data»)) 0) = rw q at t in
+        let (v, d) = and-yes (eqb (length (e .label)) 0 && eqb (length (e .stamp)) 0) (eqb (length (e .«data»)) 0) u in
+        let (l, s) = and-yes (eqb (length (e .label)) 0) (eqb (length (e .stamp)) 0) v in
+        rw (q, no-text (e .label) l, no-text (e .stamp) s, no-text (e .«data») d)
 
 -- a byte of the second stretch, behind the eight of the first
 middle : (c o e x : List ℕ) (j : ℕ) → length c ≡ 8 → j < length o → getD (c ++ (o ++ e) ++ x) (8 + j) 0 ≡ getD o j 0
@@ -162,9 +184,9 @@ module _ (ts : List Told) (n : length ts ≡ 8) (rest : List ℕ) (i : ℕ) (h :
       (two-bytes (offsets 24 ts) i (omega (arith, offsets-count 24 ts)) (omega (arith, offset-small 24 ts i t)))
 
   -- at the offset of line i stands its entry, if it has one
-  entry-read : entryAt (sheetOf ts ++ rest) (getD (offsets 24 ts) i 0) ≡ getD ts i idle .entry
+  entry-read : T (isPlain (getD ts i idle .entry)) → entryAt (sheetOf ts ++ rest) (getD (offsets 24 ts) i 0) ≡ getD ts i idle .entry
   unfolding entryAt pick
-  entry-read = rw (offset-at 24 ts i) (go (getD ts i idle .entry) refl)
+  entry-read plain = rw (offset-at 24 ts i) (go (getD ts i idle .entry) refl)
     where
       place : ℕ
       place = 24 + length (entries (take i ts))
@@ -173,11 +195,12 @@ module _ (ts : List Told) (n : length ts ≡ 8) (rest : List ℕ) (i : ℕ) (h :
       go none q = refl
       go (some e) q =
           rw (ne-eqb place 0 (λ z. omega arith), entry-place ts n rest i h, q)
-          (read-entry e (entries (drop (suc i) ts) ++ rest))
+          (read-entry e (entries (drop (suc i) ts) ++ rest) (subst (λ (o : Option Entry). T (isPlain o)) q plain))
 
 -- a sheet gives back what each line's turn was, whatever bytes follow it
-pub reads-back : (ts : List Told) → length ts ≡ 8 → T (every isShort ts) → (rest : List ℕ) (i : ℕ) → i < 8
-    → readTurn (sheetOf ts ++ rest) i ≡ getD ts i idle
+pub reads-back : (ts : List Told) → length ts ≡ 8 → T (every isShort ts) → T (every (λ (x : Told). isPlain (x .entry)) ts)
+    → (rest : List ℕ) (i : ℕ) → i < 8 → readTurn (sheetOf ts ++ rest) i ≡ getD ts i idle
 unfolding readTurn
-reads-back ts n t rest i h =
-    rw (count-read ts n rest i h, offset-read ts n rest i h t, entry-read ts n rest i h)
+reads-back ts n t plain rest i h =
+    let own = every-at (λ (x : Told). isPlain (x .entry)) ts idle plain i (omega arith) in
+    rw (count-read ts n rest i h, offset-read ts n rest i h t, entry-read ts n rest i h own)

@@ -18,6 +18,7 @@ use Rattle.line.specs.Entries.{firstEntry}
 use Rattle.line.specs.Numbers.{shown, shownIf}
 use Rattle.line.specs.Laws.Openings.{opening-known, opening-unknown}
 use Rattle.line.specs.Laws.Heard.{heard-nothing, heard-told, heard-accepted}
+use Rattle.line.specs.Laws.GroupsByBytes.{notice-number}
 use Rattle.line.specs.declared.Opening.{Opening}
 use Rattle.line.specs.declared.Opening.the-variants as line
 use Rattle.line.specs.declared.Heard.{Heard}
@@ -29,7 +30,7 @@ use Rattle.station.specs.Sheets.{entryBytes, entryOf}
 use Rattle.station.specs.Rounds.{tells}
 use Rattle.station.specs.History.{Event, openingIn, deliveryOf, turn}
 use Rattle.station.specs.OneLine.{Line, closed, opened, quota, lineAfter, turnTold, deliveryNumber}
-use Rattle.station.specs.Laws.Sheets.{isShort}
+use Rattle.station.specs.Laws.Sheets.{isShort, isPlain}
 use Rattle.station.specs.Records.{StationLine, Turned}
 use Rattle.station.specs.declared.Refusal.{Refusal}
 use Rattle.station.specs.declared.Refusal.the-variants.{NoRoom, LineClosed, ModeUnknown}
@@ -183,6 +184,19 @@ turn-short l h =
     let v = turn-view l h in
     le→leb (length (entryOf (tells (turning l) .entry))) 132
     (heard-short (turning l .heard) (turning l .line .content) (v .long .content) (v .inside))
+
+-- what is heard has a place or a text, and not both
+heard-plain : (h : Heard) (content : List ℕ) → length content ≡ 128 → FieldsInside h
+    → T (isPlain (shownIf (heardAnswer h content)))
+unfolding pick
+heard-plain Nothing content e i = rw (heard-nothing content) tt
+heard-plain (Told notice) content e i =
+    rw (heard-told notice content, notice-number notice) tt
+heard-plain (Accepted fields) content e i = rw (heard-accepted fields content e i) tt
+
+pub turn-plain : (l : StationLine) → Long l → T (isPlain (tells (turning l) .entry))
+turn-plain l h =
+    let v = turn-view l h in heard-plain (turning l .heard) (turning l .line .content) (v .long .content) (v .inside)
 
 -- ---- A delivery and an opening
 

@@ -1,7 +1,7 @@
 -- What is left decides: the place is that in what is left, and the characters gone over.
 use Prim.Native.Nat.{_+_, _-_, _≤_}
 use Rattle.groups.proofs.Pictures.{agreed-here, agreed-on, agreed-over}
-use Rattle.groups.specs.Stored.{agreed}
+use Rattle.groups.specs.Place.{agreed}
 use borrow.Author.Needs.{needs}
 use lib.ListN.{drop, length}
 use mathlib.Core.Path.{_∙_, _≡_, sym}

@@ -2,7 +2,8 @@
 use Prim.Native.Nat.{_+_, _-_, _≤_, max}
 use Rattle.groups.proofs.Pictures.{furthest-on, furthest-over}
 use Rattle.groups.specs.Formats.{forms}
-use Rattle.groups.specs.Stored.{formatsFrom, furthest, reach}
+use Rattle.groups.specs.Place.{furthest, reach}
+use Rattle.groups.specs.Stored.{formatsFrom}
 use borrow.Author.Needs.{needs}
 use mathlib.Core.Path.{_∙_, _≡_, sym}
 use native.Mathlib.Omega.{arith}

@@ -3,7 +3,7 @@ use Prim.Native.Nat.{ℕ, _-_, _≤_}
 use Rattle.groups.proofs.Pictures.{reached, too-long, too-short}
 use Rattle.groups.proofs.Walks.{to-end}
 use Rattle.groups.specs.Laws.Forms.{agreed-most}
-use Rattle.groups.specs.Stored.{agreed}
+use Rattle.groups.specs.Place.{agreed}
 use borrow.Author.Needs.{needs}
 use lib.ListN.{drop, length, length-drop, length-take, take}
 use mathlib.Core.List.{List}

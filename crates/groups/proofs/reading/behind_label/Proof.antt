@@ -2,10 +2,11 @@
 use Rattle.groups.proofs.Views.{found-none, found-some}
 use Rattle.groups.proofs.Walks.{check-front}
 use Prim.Native.Nat.{ℕ}
-use Rattle.groups.specs.Judging.{shown}
+use Rattle.groups.proofs.Telling.{told-listed, told-nowhere}
 use Rattle.groups.specs.Table.{lookup, rows}
 use mathlib.Core.List.{List}
 use Rattle.groups.specs.Laws.Places.{behind-checked, behind-listed, behind-open, behind-short, behind-unlisted}
+use Rattle.groups.specs.declared.Refusal.the-variants.{CheckWrong, LabelUnknown, Misshapen}
 use borrow.Author.Needs.{needs}
 use lib.ListN.{length-take}
 use mathlib.Core.Path.{_∙_, ap, sym}
@@ -20,8 +21,8 @@ returns : tie.Need-returns
 returns c =
     let start = c .before .before .before .before .before in
     let g = start .args in
-    c .refuse .ensures ∙ ap shown (sym (behind-short (g .mode) (g .label .now) (g .rest .now)
-    (c .before .if1 .taken)))
+    c .refuse .ensures ∙ told-nowhere _ _ _ Misshapen tt tt (behind-short (g .mode) (g .label .now) (g .rest .now)
+    (c .before .if1 .taken))
 
 shared-slice-read-if2 : tie.Need-shared-slice-read-if2
 shared-slice-read-if2 c = search needs
@@ -37,8 +38,8 @@ returns-2 c =
     let at-if1 = c .before .before .before .before in
     let start = at-if1 .before .before .before .before in
     let g = start .args in
-    c .refuse2 .ensures ∙ ap shown (sym (behind-open (g .mode) (g .label .now) (g .rest .now) (at-if1 .if1 .left) (λ
-    z. c .before .if2 .taken (z ∙ sym (c .before .before .separator-of .ensures)))))
+    c .refuse2 .ensures ∙ told-nowhere _ _ _ Misshapen tt tt (behind-open (g .mode) (g .label .now) (g .rest .now) (at-if1 .if1 .left) (λ
+    z. c .before .if2 .taken (z ∙ sym (c .before .before .separator-of .ensures))))
 
 slice-aggregate-body : tie.Need-slice-aggregate-body
 slice-aggregate-body c = simp length-take (omega arith)
@@ -64,9 +65,9 @@ returns-3 c =
     let at-if1 = at-separator-of .before .before in
     let start = at-if1 .before .before .before .before in
     let g = start .args in
-    c .refuse3 .ensures ∙ ap shown (sym (behind-checked (g .mode) (g .label .now) (g .rest .now) (at-if1 .if1 .left)
+    c .refuse3 .ensures ∙ told-nowhere _ _ _ CheckWrong tt tt (behind-checked (g .mode) (g .label .now) (g .rest .now) (at-if1 .if1 .left)
     (at-if2 .if2 .left ∙ at-separator-of .separator-of .ensures) (λ z. c .before .if3 .taken (z ∙ sym
-    (c .before .before .check-by .ensures ∙ check-front (g .mode) (g .label .now) (g .rest .now) (g .front) (start .pre .0) (at-if1 .if1 .left))))))
+    (c .before .before .check-by .ensures ∙ check-front (g .mode) (g .label .now) (g .rest .now) (g .front) (start .pre .0) (at-if1 .if1 .left)))))
 
 find-requires : tie.Need-find-requires
 find-requires c κs =
@@ -77,7 +78,9 @@ enum-known-found : tie.Need-enum-known-found
 enum-known-found c = search needs
 
 fields-of-requires : tie.Need-fields-of-requires
-fields-of-requires c κs = search needs
+fields-of-requires c κs =
+    let start = c .before .before .before .before .before .before .before .before .before .before .before .before .before .before .before in
+    start .pre .2
 
 enum-told : tie.Need-enum-told
 enum-told c = search needs
@@ -95,9 +98,10 @@ returns-4 c =
     let at-if1 = at-separator-of .before .before in
     let start = at-if1 .before .before .before .before in
     let g = start .args in
-    c .fields-of .ensures ∙ ap shown (sym (behind-listed (g .mode) (g .label .now) (g .rest .now) _
+    let listed = found-some _ (at-find .find .ensures ∙ ap (λ (l : List ℕ). lookup l (rows (g .mode))) (start .pre .1 .begins)) (c .before .before .found .given .1) in
+    c .fields-of .ensures ∙ told-listed (g .mode) _ (g .label .now) (g .rest .now) (behind-listed (g .mode) (g .label .now) (g .rest .now) _
     (at-if1 .if1 .left) (at-if2 .if2 .left ∙ at-separator-of .separator-of .ensures) (at-if3 .if3 .left ∙
-    at-check-by .check-by .ensures ∙ check-front (g .mode) (g .label .now) (g .rest .now) (g .front) (start .pre .0) (at-if1 .if1 .left)) (found-some _ (at-find .find .ensures ∙ ap (λ (l : List ℕ). lookup l (rows (g .mode))) (start .pre .1 .begins)) (c .before .before .found .given .1))))
+    at-check-by .check-by .ensures ∙ check-front (g .mode) (g .label .now) (g .rest .now) (g .front) (start .pre .0) (at-if1 .if1 .left)) listed) listed
 
 returns-5 : tie.Need-returns-5
 returns-5 c =
@@ -109,9 +113,9 @@ returns-5 c =
     let at-if1 = at-separator-of .before .before in
     let start = at-if1 .before .before .before .before in
     let g = start .args in
-    c .refuse4 .ensures ∙ ap shown (sym (behind-unlisted (g .mode) (g .label .now) (g .rest .now) (at-if1 .if1 .left)
+    c .refuse4 .ensures ∙ told-nowhere _ _ _ LabelUnknown tt tt (behind-unlisted (g .mode) (g .label .now) (g .rest .now) (at-if1 .if1 .left)
     (at-if2 .if2 .left ∙ at-separator-of .separator-of .ensures) (at-if3 .if3 .left ∙ at-check-by .check-by .ensures ∙ check-front (g .mode) (g .label .now) (g .rest .now) (g .front) (start .pre .0) (at-if1 .if1 .left))
-    (found-none (at-find .find .ensures ∙ ap (λ (l : List ℕ). lookup l (rows (g .mode))) (start .pre .1 .begins)) (c .before .enum-told .given .1))))
+    (found-none (at-find .find .ensures ∙ ap (λ (l : List ℕ). lookup l (rows (g .mode))) (start .pre .1 .begins)) (c .before .enum-told .given .1)))
 
 pub behind-label-spec : {M : Type 1} → statement M
 behind-label-spec =

@@ -1,10 +1,10 @@
 -- The fields are cut where the stamp ends.
 use Rattle.groups.proofs.Walks.{split-at, to-end}
-use Rattle.groups.specs.Judging.{shown}
+use Rattle.groups.proofs.Telling.{told-fields, told-next}
 use Rattle.groups.specs.Stored.{ruleOf}
 use borrow.Author.Needs.{needs}
 use lib.Seq.{length-take-le}
-use mathlib.Core.Path.{_∙_, ap, sym}
+use mathlib.Core.Path.{_∙_, sym}
 use native.Mathlib.Omega.{arith}
 use Rattle.groups.proofs.reading.fields_of.Statement.{statement}
 use Rattle.groups.proofs.reading.fields_of.Tie as tie
@@ -51,6 +51,9 @@ finish-requires c κs = search needs
 enum-told : tie.Need-enum-told
 enum-told c = search needs
 
+add-refuse : tie.Need-add-refuse
+add-refuse c = search needs
+
 refuse-requires : tie.Need-refuse-requires
 refuse-requires c κs = search needs
 
@@ -63,14 +66,14 @@ returns c =
     c .finish .ensures ∙ rw (
       to-end (c .before .before .before .stamp-span .result) (g .body .now),
       c .before .before .before .stamp-span .ensures .0,
-    ) (ap shown (sym (split .2 (g .label .now))))
+    ) (told-fields (g .mode) (ruleOf (g .rule)) (g .label .now) (g .body .now) _ (split .0) (split .2) (split .3 (g .label .now)))
 
 returns-2 : tie.Need-returns-2
 returns-2 c =
     let at = c .before .before .before in
     let g = at .before .before .before .args in
-    c .refuse .ensures ∙ ap shown (sym (split-at (g .mode) (ruleOf (g .rule)) (g .body .now) (at .stamp-end .ensures)
-    (c .before .enum-told .given .1) (g .label .now)))
+    c .refuse .ensures ∙ told-next _ _ _ (split-at (g .mode) (ruleOf (g .rule)) (g .body .now) (at .stamp-end .ensures)
+    (c .before .enum-told .given .1) (g .label .now))
 
 pub fields-of-spec : {M : Type 1} → statement M
 fields-of-spec =
@@ -85,6 +88,7 @@ fields-of-spec =
     part-finish-end
     finish-requires
     enum-told
+    add-refuse
     refuse-requires
     returns
     returns-2)

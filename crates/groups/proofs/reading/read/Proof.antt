@@ -3,11 +3,12 @@ use Prim.Native.Nat.{_+_, ℕ}
 use Rattle.groups.proofs.Walks.{front-summed, starts-with, to-end}
 use Rattle.groups.specs.Conditions.{firstAt}
 use Rattle.groups.specs.Inside.{ContentWalk}
-use Rattle.groups.specs.Judging.{shown}
-use Rattle.groups.specs.Laws.Places.{read-cut, read-long, read-uncut, read-unlabelled}
+use Rattle.groups.proofs.Telling.{told-cut, told-nowhere}
+use Rattle.groups.specs.declared.Refusal.the-variants.{Misshapen, TooLong}
+use Rattle.groups.specs.Laws.Places.{read-long, read-uncut, read-unlabelled}
 use borrow.Author.Needs.{needs}
 use lib.ListN.{length-take}
-use mathlib.Core.Path.{_∙_, ap, subst, sym}
+use mathlib.Core.Path.{_∙_, ap, subst}
 use native.Mathlib.Omega.{arith}
 use Rattle.groups.proofs.reading.read.Statement.{statement}
 use Rattle.groups.proofs.reading.read.Tie as tie
@@ -19,7 +20,7 @@ returns : tie.Need-returns
 returns c =
     let start = c .before .before .before in
     let g = start .args in
-    c .refuse .ensures ∙ ap shown (sym (read-long (g .mode) (g .content .now) (c .before .if1 .taken)))
+    c .refuse .ensures ∙ told-nowhere _ _ _ TooLong tt tt (read-long (g .mode) (g .content .now) (c .before .if1 .taken))
 
 separator-of-requires : tie.Need-separator-of-requires
 separator-of-requires c κs = search needs
@@ -36,9 +37,9 @@ returns-2 c =
     let at-if1 = at-separator-of .before in
     let start = at-if1 .before .before in
     let g = start .args in
-    c .refuse2 .ensures ∙ ap shown (sym (read-uncut (g .mode) (g .content .now) _ (c .before .before .walk .ensures .first-is ∙
+    c .refuse2 .ensures ∙ told-nowhere _ _ _ Misshapen tt tt (read-uncut (g .mode) (g .content .now) _ (c .before .before .walk .ensures .first-is ∙
     ap (λ (s : ℕ). firstAt s (g .content .now)) (at-separator-of .separator-of .ensures)) (at-if1 .if1 .left)
-    (c .before .if2 .taken)))
+    (c .before .if2 .taken))
 
 refuse-requires-3 : tie.Need-refuse-requires-3
 refuse-requires-3 c κs = search needs
@@ -50,9 +51,9 @@ returns-3 c =
     let at-if1 = at-separator-of .before in
     let start = at-if1 .before .before in
     let g = start .args in
-    c .refuse3 .ensures ∙ ap shown (sym (read-unlabelled (g .mode) (g .content .now) _ (at-walk .walk .ensures .first-is ∙ ap
+    c .refuse3 .ensures ∙ told-nowhere _ _ _ Misshapen tt tt (read-unlabelled (g .mode) (g .content .now) _ (at-walk .walk .ensures .first-is ∙ ap
     (λ (s : ℕ). firstAt s (g .content .now)) (at-separator-of .separator-of .ensures)) (at-if1 .if1 .left)
-    (c .before .before .if2 .left) (c .before .if3 .taken)))
+    (c .before .before .if2 .left) (c .before .if3 .taken))
 
 add-next : tie.Need-add-next
 add-next c = search needs
@@ -79,6 +80,7 @@ behind-label-requires c κs =
           (subst (λ (s : ℕ). ContentWalk s (g .content .now) (at-walk .walk .result .first) (at-walk .walk .result .sum))
           (at-separator-of .separator-of .ensures) (at-walk .walk .ensures))),
       starts-with (at-walk .walk .result .first) (g .content .now),
+      simp length-take (omega arith),
     )
 
 returns-4 : tie.Need-returns-4
@@ -90,9 +92,9 @@ returns-4 c =
     let at-if1 = at-separator-of .before in
     let start = at-if1 .before .before in
     let g = start .args in
-    c .behind-label .ensures ∙ rw (to-end (at-walk .walk .result .first + 1) (g .content .now)) (ap shown (sym (read-cut
+    c .behind-label .ensures ∙ rw (to-end (at-walk .walk .result .first + 1) (g .content .now)) (told-cut
     (g .mode) (g .content .now) _ (at-walk .walk .ensures .first-is ∙ ap (λ (s : ℕ). firstAt s (g .content .now))
-    (at-separator-of .separator-of .ensures)) (at-if1 .if1 .left) (at-if2 .if2 .left) (at-if3 .if3 .left))))
+    (at-separator-of .separator-of .ensures)) (at-if1 .if1 .left) (at-if2 .if2 .left) (at-if3 .if3 .left))
 
 pub read-spec : {M : Type 1} → statement M
 read-spec =

@@ -5,6 +5,7 @@ use Rattle.groups.specs.Laws.Places.{fields-plain, fields-short, fields-
 use Rattle.groups.specs.Stamps.{isStamped}
 use Rattle.groups.specs.Stored.{ruleOf}
 use borrow.Author.Needs.{needs}
+use mathlib.Core.Bool.{Bool}
 use mathlib.Core.Path.{_∙_, ap, sym}
 use native.Mathlib.Omega.{arith}
 use Rattle.groups.proofs.reading.stamp_end.Statement.{statement}
@@ -46,11 +47,12 @@ returns-3 c =
     let at-if2 = c .before .before .before in
     let at-is-stamped = at-if2 .before .before in
     let at-mark-of = at-is-stamped .before in
-    let g = at-mark-of .before .before .args in (
+    let g = at-mark-of .before .before .args in
+    let stamped = ap isStamped (sym (at-mark-of .mark-of .ensures)) ∙ sym (at-is-stamped .is-stamped .ensures) ∙ at-if2 .before .if1 .taken in (
       omega arith,
       omega arith,
-      λ label. fields-stamped (g .mode) (ruleOf (g .rule)) label (g .body .now)
-          (ap isStamped (sym (at-mark-of .mark-of .ensures)) ∙ sym (at-is-stamped .is-stamped .ensures) ∙ at-if2 .before .if1 .taken) (at-if2 .if2 .left)
+      ap (λ (k : Bool). pick k 14 0) (sym stamped),
+      λ label. fields-stamped (g .mode) (ruleOf (g .rule)) label (g .body .now) stamped (at-if2 .if2 .left)
           (c .if3 .left ∙ c .before .separator-of .ensures),
     )
 
@@ -59,11 +61,12 @@ unfolding stampSpan pick
 returns-4 c =
     let at-is-stamped = c .before in
     let at-mark-of = at-is-stamped .before in
-    let g = at-mark-of .before .before .args in (
+    let g = at-mark-of .before .before .args in
+    let unstamped = ap isStamped (sym (at-mark-of .mark-of .ensures)) ∙ sym (at-is-stamped .is-stamped .ensures) ∙ c .if1 .left in (
       omega arith,
       omega arith,
-      λ label. fields-plain (g .mode) (ruleOf (g .rule)) label (g .body .now)
-          (ap isStamped (sym (at-mark-of .mark-of .ensures)) ∙ sym (at-is-stamped .is-stamped .ensures) ∙ c .if1 .left),
+      ap (λ (k : Bool). pick k 14 0) (sym unstamped),
+      λ label. fields-plain (g .mode) (ruleOf (g .rule)) label (g .body .now) unstamped,
     )
 
 pub stamp-end-spec : {M : Type 1} → statement M

@@ -12,6 +12,9 @@ long c = search needs
 number-of-requires : tie.Need-number-of-requires
 number-of-requires c κs = search needs
 
+place-of-requires : tie.Need-place-of-requires
+place-of-requires c κs = search needs
+
 enum-told : tie.Need-enum-told
 enum-told c = search needs
 
@@ -21,7 +24,7 @@ enum-known-heard c = search needs
 put-group-requires : tie.Need-put-group-requires
 put-group-requires c κs =
     let at-heard = c .before .before in
-    let start = at-heard .before .before .before .before in
+    let start = at-heard .before .before .before .before .before in
     fits-accepted (start .args .heard) _ (start .args .at) _ (at-heard .heard .given .1) (start .pre)
 
 enum-told-2 : tie.Need-enum-told-2
@@ -38,7 +41,7 @@ add-result c = search needs
 
 returns : tie.Need-returns
 returns c =
-    let start = c .before .before .before .before in
+    let start = c .before .before .before .before .before in
     put-nothing (start .args .sheet .now) (start .args .content) (start .args .at) _ (start .args .heard) (long start) (start .pre) (c .enum-told .given .1)
 
 same-length : tie.Need-same-length
@@ -48,7 +51,7 @@ returns-2 : tie.Need-returns-2
 returns-2 c =
     let at-put-group = c .before .before in
     let at-heard = at-put-group .before .before .before in
-    let start = at-heard .before .before .before .before in
+    let start = at-heard .before .before .before .before .before in
     put-accepted (start .args .sheet .now) (start .args .content) (start .args .at) _ (start .args .heard) (long start) (start .pre) _ _ _ (at-heard .heard .given .1) (at-put-group .put-group .ensures)
 
 same-length-2 : tie.Need-same-length-2
@@ -58,9 +61,11 @@ returns-3 : tie.Need-returns-3
 returns-3 c =
     let at-copy-in = c .before .before in
     let at-enum-told2 = at-copy-in .before .before .before in
-    let at-number-of = at-enum-told2 .before .before in
+    let at-place-of = at-enum-told2 .before .before in
+    let at-number-of = at-place-of .before in
     let start = at-number-of .before .before in
-    put-told (start .args .sheet .now) (start .args .content) (start .args .at) _ (start .args .heard) (long start) (start .pre) _ _ _ (at-enum-told2 .enum-told2 .given .1) (at-number-of .number-of .ensures)
+    put-told (start .args .sheet .now) (start .args .content) (start .args .at) _ (start .args .heard) (long start) (start .pre) _ _ _ _ (at-enum-told2 .enum-told2 .given .1) (at-number-of .number-of .ensures)
+    (at-place-of .place-of .ensures)
     (at-copy-in .copy-in .ensures)
 
 pub put-entry-spec : {M : Type 1} → statement M
@@ -68,6 +73,7 @@ put-entry-spec =
     tie.close
     (tie.spec
     number-of-requires
+    place-of-requires
     enum-told
     enum-known-heard
     put-group-requires

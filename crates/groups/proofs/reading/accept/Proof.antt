@@ -1,7 +1,7 @@
 -- The stretches follow from the lengths.
 use borrow.Author.Needs.{needs}
-use Rattle.groups.proofs.reading.place.Statement.{statement}
-use Rattle.groups.proofs.reading.place.Tie as tie
+use Rattle.groups.proofs.reading.accept.Statement.{statement}
+use Rattle.groups.proofs.reading.accept.Tie as tie
 
 add-next : tie.Need-add-next
 add-next c = search needs
@@ -18,6 +18,6 @@ add-t11 c = search needs
 returns : tie.Need-returns
 returns c = rw (c .stamp-stretch .ensures, c .before .stamp-span .ensures .0)
 
-pub place-spec : {M : Type 1} → statement M
-place-spec =
+pub accept-spec : {M : Type 1} → statement M
+accept-spec =
     tie.close (tie.spec add-next stamp-span-requires stamp-stretch-requires add-t11 returns)
