@@ -62,7 +62,7 @@ use Rattle.groups.specs.Laws.Written.{written-counted, written-left}
 use Rattle.groups.specs.Laws.Business.{row-made, row-lengths, plain-made, never-twelve, stamp-refused}
 use Rattle.groups.specs.Laws.Seasons.{degraded-told, degraded-judged, peak-told, peak-judged}
 use Rattle.groups.specs.Laws.FirstWrong.{row-wrong, before-begun, length-unknown, kind-wrong}
-use Rattle.groups.specs.Laws.Place.{stamp-told, data-told, others-told, inside-told, placed-small}
+use Rattle.groups.specs.Laws.Place.{stamp-told, data-told, data-once, others-told, inside-told, placed-small}
 use Rattle.groups.specs.declared.Mode.{Mode}
 use Rattle.groups.specs.declared.Mode.the-variants.{Standard, Business}
 use Rattle.groups.specs.declared.Refusal.{Refusal}
@@ -211,6 +211,10 @@ stamp-place = stamp-told
 pub data-place : (number : ℕ) (m : Mode) → modeOf number ≡ some m → (c : List ℕ)
     → numberOf (shown (judging number c) .verdict) ≡ 14 → WrongDataAt m c (placeOf number c)
 data-place = data-told
+
+-- A content has one such place.
+pub one-place : (m : Mode) (c : List ℕ) (i j : ℕ) → WrongDataAt m c i → WrongDataAt m c j → i ≡ j
+one-place = data-once
 
 -- "for all others 0"
 pub other-place : (number : ℕ) (c : List ℕ)

@@ -172,8 +172,8 @@ fn accept(label: &[u8], stamp: &[u8], data: &[u8]) -> Judgement
     }
 }
 
-// The place that a refusal of stamp or data tells: `next` is that of the first character after the label's separator. Only
-// refused data are gone over again, so an accepted group pays nothing for it.
+// The place that a refusal of stamp or data tells: `next` is that of the first character after the label's separator. It is
+// looked for only now, so that nothing is gone over twice of a group that is accepted.
 fn wrong_place(refusal: Refusal, rule: Rule, next: usize, stamp: &[u8], data: &[u8]) -> usize
     requires { ⌜ next ≤ 129 ⌝ }
     ensures { λ r. ⌜ r ≡ placeFor (numberOfRefusal refusal) next (wrongBehind (ruleOf rule) next (now (stamp .entry)) (now («data» .entry))) ⌝ }

@@ -21,12 +21,12 @@ use Rattle.groups.specs.Judging.{judging, shown}
 use Rattle.groups.specs.Made.{someMade}
 use Rattle.groups.specs.Conditions.{firstAt, finalPlace, labelOf, bodyOf, misshapen, checkWrong, unlisted, stampFollowed, stampWrong, dataIn, outside, widthWrong, kindWrong, conditions}
 use Rattle.groups.specs.Place.{firstWrong, nextPlace, wrongPlace, placeFor, placeBy, placeIn, placeOf}
-use Rattle.groups.specs.FirstWrong.{WrongDataAt}
+use Rattle.groups.specs.FirstWrong.{FirstWrong, WrongDataAt}
 use Rattle.groups.specs.Laws.Tests.{equal-or}
 use Rattle.groups.specs.Laws.Table.{listed-right}
 use Rattle.groups.specs.Laws.Conditions.{Shaped, shape, first-there}
 use Rattle.groups.specs.Laws.ByNumber.{judged-read, told-as, read-number}
-use Rattle.groups.specs.Laws.FirstWrong.{rule-wrong, unfit-some}
+use Rattle.groups.specs.Laws.FirstWrong.{rule-wrong, wrong-once, unfit-some}
 use Rattle.groups.specs.declared.Mode.{Mode}
 
 -- ---- The place by the number
@@ -238,3 +238,19 @@ others-told number c h k = go (modeOf number)
     go : (o : Option Mode) → placeIn o c (numberOf (shown (judging number c) .verdict)) ≡ 0
     go none = refl
     go (some m) = no-place _ _ _ h k
+
+-- ---- There is one such place
+
+pub data-once : (m : Mode) (c : List ℕ) (i j : ℕ) → WrongDataAt m c i → WrongDataAt m c j → i ≡ j
+data-once m c i j a b =
+    let both : some (a .rule) ≡ some (b .rule) = sym (a .listed) ∙ b .listed in
+    let same : a .rule ≡ b .rule = cc both in
+    let body = bodyOf m c in
+    subst
+    (λ (r : Rule). (y : ℕ) → FirstWrong (r .formats) (dataIn (isStamped (r .mark)) body) y
+    → j + length (dataIn (isStamped (r .mark)) body) ≡ finalPlace c + y → i ≡ j)
+    same
+    (λ y f e. omega (arith, a .there, e, wrong-once (a .rule .formats) (dataIn (isStamped (a .rule .mark)) body) (a .before) y (a .first-wrong) f))
+    (b .before)
+    (b .first-wrong)
+    (b .there)
