@@ -1,8 +1,12 @@
 -- Each place by the number of the refusal.
+use Rattle.groups.specs.Inside.{wrongBehind}
 use Rattle.groups.specs.Laws.Place.{no-place, place-fourteen, place-twelve}
+use Rattle.groups.specs.Numbers.{numberOfRefusal}
+use Rattle.groups.specs.Stored.{ruleOf}
 use borrow.Author.Needs.{needs}
 use borrow.Author.Tests.{ne-eqb}
 use mathlib.Core.Path.{_∙_, sym}
+use native.Mathlib.Omega.{arith}
 use Rattle.groups.proofs.reading.wrong_place.Statement.{statement}
 use Rattle.groups.proofs.reading.wrong_place.Tie as tie
 
@@ -28,8 +32,14 @@ returns-2 : tie.Need-returns-2
 returns-2 c =
     let at-if2 = c .before .before in
     let at-refusal-number = at-if2 .before .before in
-    rw (c .before .stamp-span .ensures .0, c .first-wrong .ensures .0)
-    (sym (place-fourteen _ _ _ (sym (at-refusal-number .refusal-number .ensures) ∙ at-if2 .if2 .taken)))
+    let g = at-refusal-number .before .before .before .args in
+    omega (
+      arith,
+      c .before .stamp-span .ensures .0,
+      c .first-wrong .ensures .0,
+      place-fourteen (numberOfRefusal (g .refusal)) (g .next) (wrongBehind (ruleOf (g .rule)) (g .next) (g .stamp .now) (g .«data» .now))
+          (sym (at-refusal-number .refusal-number .ensures) ∙ at-if2 .if2 .taken),
+    )
 
 returns-3 : tie.Need-returns-3
 returns-3 c =
