@@ -1,6 +1,6 @@
 -- Bytes in a row: each does what `step` would do with it.
 use mathlib.Core.Path.{_≡_, refl, sym, ap, subst, _∙_}
-use mathlib.Core.Bool.{Bool, true, false, _&&_, _||_}
+use mathlib.Core.Bool.{Bool, true, false, false≢true, _&&_, _||_}
 use mathlib.Core.List.{List, [], _∷_}
 use Prim.Native.Nat.{ℕ, _+_, _-_, _≤_, _<_}
 use native.Mathlib.Nat.{add-zero, add-assoc}
@@ -13,14 +13,17 @@ use borrow.Author.Tests.{lt-ltb, le-ltb, ne-eqb, eqb-true, leb-true}
 use Rattle.groups.specs.Laws.Tests.{split}
 use Rattle.characters.specs.Answers.{pick}
 use Rattle.characters.specs.Passing.{Pass}
-use Rattle.characters.specs.Wire.{isSound, characterOf, wireByteOf, STX, ETX, EOT, HT, LF, CR, SP}
+use Rattle.characters.specs.Wire.{isSound, characterOf, wireByteOf, STX, HT, LF, SP}
 use Rattle.characters.specs.WireLaws.{control-wires, sound-exactly, wire-character}
 use Rattle.line.specs.Laws.Written.{wire-symbol}
 use Rattle.line.specs.Symbols.{soundSymbol, symbolOf}
 use Rattle.line.specs.Rules.{move}
+use Rattle.line.specs.FrameNumbers.{frameAt}
+use Rattle.line.specs.ByBytes.{is}
+use Rattle.line.specs.Laws.LookingBack.{isAs, tests}
 use Rattle.line.specs.State.{phaseOf, heldIn, stateOf}
 use Rattle.line.specs.Steps.{acted, quietOf, Stepped, stepped, fed}
-use Rattle.line.specs.Views.{held-most, mode-kept, phase-back}
+use Rattle.line.specs.Views.{held-most, mode-kept, frame-kept, phase-back}
 use Rattle.line.specs.Runs.{Adds, AddsOn, emptyRun, isPlainByte, Passes, Runs, RunsQuietly, Takes}
 use Rattle.line.specs.declared.LineState.{LineState}
 use Rattle.line.specs.declared.rules.Symbol.{Symbol}
@@ -34,60 +37,63 @@ use Rattle.line.specs.declared.step.Reaction.{Reaction}
 
 -- ---- A line in a phase, whose group holds so many characters
 
-group-held : (mode : ℕ) (f d o : Bool) (h : ℕ) → h ≤ 128 → heldIn (stateOf mode (Group f d o) h) ≡ h
+group-held : (mode frame : ℕ) (f d o : Bool) (h : ℕ) → h ≤ 128 → heldIn (stateOf mode frame (Group f d o) h) ≡ h
 unfolding heldIn pick
-group-held mode f d o h k =
+group-held mode frame f d o h k =
     split 128 h (λ a. let e : h ≡ 128 = omega arith in rw (le-ltb h 128 a) (sym e)) (λ a. rw (lt-ltb h 128 a))
 
 -- outside of groups no content is looked at, and in a group it is as long as it was written
-content-kept : (mode : ℕ) (p : Phase) (h : ℕ) (g : List ℕ) (y : Symbol) → h ≤ 128
-    → acted mode (heldIn (stateOf mode p h)) g (move p y) ≡ acted mode h g (move p y)
-content-kept mode Outside h g Stx k = refl
-content-kept mode Outside h g Etx k = refl
-content-kept mode Outside h g Eot k = refl
-content-kept mode Outside h g Lf k = refl
-content-kept mode Outside h g Cr k = refl
-content-kept mode Outside h g Damaged k = refl
-content-kept mode Outside h g (Text c) k = refl
-content-kept mode (Frame flaw) h g Stx k = refl
-content-kept mode (Frame flaw) h g Etx k = refl
-content-kept mode (Frame flaw) h g Eot k = refl
-content-kept mode (Frame flaw) h g Lf k = refl
-content-kept mode (Frame flaw) h g Cr k = refl
-content-kept mode (Frame flaw) h g Damaged k = refl
-content-kept mode (Frame flaw) h g (Text c) k = refl
-content-kept mode (Group f d o) h g y k = rw (group-held mode f d o h k)
+content-kept : (mode frame next : ℕ) (p : Phase) (h : ℕ) (g : List ℕ) (y : Symbol) → h ≤ 128
+    → acted mode next (heldIn (stateOf mode frame p h)) g (move p y) ≡ acted mode next h g (move p y)
+content-kept mode frame next Outside h g Stx k = refl
+content-kept mode frame next Outside h g Etx k = refl
+content-kept mode frame next Outside h g Eot k = refl
+content-kept mode frame next Outside h g Lf k = refl
+content-kept mode frame next Outside h g Cr k = refl
+content-kept mode frame next Outside h g Damaged k = refl
+content-kept mode frame next Outside h g (Text c) k = refl
+content-kept mode frame next (Frame flaw) h g Stx k = refl
+content-kept mode frame next (Frame flaw) h g Etx k = refl
+content-kept mode frame next (Frame flaw) h g Eot k = refl
+content-kept mode frame next (Frame flaw) h g Lf k = refl
+content-kept mode frame next (Frame flaw) h g Cr k = refl
+content-kept mode frame next (Frame flaw) h g Damaged k = refl
+content-kept mode frame next (Frame flaw) h g (Text c) k = refl
+content-kept mode frame next (Group f d o) h g y k = rw (group-held mode frame f d o h k)
 
-steps-as : (mode : ℕ) (p : Phase) (h : ℕ) (g : List ℕ) (b : ℕ) → h ≤ 128
-    → stepped (stateOf mode p h) g b ≡ acted mode h g (move p (symbolOf b))
+steps-as : (mode frame : ℕ) (p : Phase) (h : ℕ) (g : List ℕ) (b : ℕ) → h ≤ 128
+    → stepped (stateOf mode frame p h) g b ≡ acted mode (frameAt frame (symbolOf b)) h g (move p (symbolOf b))
 unfolding stepped
-steps-as mode p h g b k = rw (phase-back mode p h, mode-kept mode p h) (content-kept mode p h g (symbolOf b) k)
+steps-as mode frame p h g b k =
+    rw (phase-back mode frame p h, mode-kept mode frame p h, frame-kept mode frame p h)
+    (content-kept mode frame (frameAt frame (symbolOf b)) p h g (symbolOf b) k)
 
-pub stepped-as : (mode : ℕ) (p : Phase) (h : ℕ) (g : List ℕ) (b : ℕ) {r : Reaction} {g' : List ℕ} → h ≤ 128
-    → Stepped (acted mode h g (move p (symbolOf b))) r g' → Stepped (stepped (stateOf mode p h) g b) r g'
-stepped-as mode p h g b k s = rw (steps-as mode p h g b k) s
+pub stepped-as : (mode frame : ℕ) (p : Phase) (h : ℕ) (g : List ℕ) (b : ℕ) {next : ℕ} {r : Reaction} {g' : List ℕ} → h ≤ 128
+    → next ≡ frameAt frame (symbolOf b)
+    → Stepped (acted mode next h g (move p (symbolOf b))) r g' → Stepped (stepped (stateOf mode frame p h) g b) r g'
+stepped-as mode frame p h g b k e s = rw (steps-as mode frame p h g b k, ← e) s
 
 -- the numbers of a line are read as those that a call writes
 as-written : (l : LineState) (n : ℕ) (g bs : List ℕ) → 0 < length bs
-    → fed n l g bs ≡ fed n (stateOf (l .mode) (phaseOf l) (heldIn l)) g bs
+    → fed n l g bs ≡ fed n (stateOf (l .mode) (l .frame) (phaseOf l) (heldIn l)) g bs
 unfolding fed stepped
 as-written l n g [] h = absurd (omega arith)
-as-written l n g (b ∷ bs) h = rw (steps-as (l .mode) (phaseOf l) (heldIn l) g b (held-most l))
+as-written l n g (b ∷ bs) h = rw (steps-as (l .mode) (l .frame) (phaseOf l) (heldIn l) g b (held-most l))
 
 -- a character joins the content
-text-on : (mode : ℕ) (f d o : Bool) (n h : ℕ) (g bs : List ℕ) (i c : ℕ) → i < length bs → h < 128
+text-on : (mode frame : ℕ) (f d o : Bool) (n h : ℕ) (g bs : List ℕ) (i c : ℕ) → i < length bs → h < 128
     → symbolOf (getD bs i 0) ≡ Text c
-    → fed n (stateOf mode (Group f d o) h) g (drop i bs)
-    ≡ fed (n + 1) (stateOf mode (Group f d o) (h + 1)) (set g h c) (drop (i + 1) bs)
+    → fed n (stateOf mode frame (Group f d o) h) g (drop i bs)
+    ≡ fed (n + 1) (stateOf mode frame (Group f d o) (h + 1)) (set g h c) (drop (i + 1) bs)
 unfolding fed pick
-text-on mode f d o n h g bs i c j k e =
-    rw (drop-cons bs i 0 j, steps-as mode (Group f d o) h g (getD bs i 0) (omega arith), e, lt-ltb h 128 k, add-one i)
+text-on mode frame f d o n h g bs i c j k e =
+    rw (drop-cons bs i 0 j, steps-as mode frame (Group f d o) h g (getD bs i 0) (omega arith), e, lt-ltb h 128 k, add-one i)
 
 -- ---- So many characters at the front of the bytes
 
 pub adds-none : (held : ℕ) (g bs : List ℕ) → held ≤ 128 → Adds held g bs 0 g
 adds-none held g bs h =
-    record { most = omega arith; room = omega arith; goes = λ f d o mode n. rw (add-zero n, add-zero held) }
+    record { most = omega arith; room = omega arith; goes = λ f d o mode frame n. rw (add-zero n, add-zero held) }
 
 pub adds-one : (held : ℕ) (g₀ g bs : List ℕ) (i c : ℕ) → Adds held g₀ bs i g → i < length bs → held + i < 128
     → symbolOf (getD bs i 0) ≡ Text c → Adds held g₀ bs (i + 1) (set g (held + i) c)
@@ -96,9 +102,9 @@ adds-one held g₀ g bs i c a h k e =
       most = omega arith;
       room = omega arith;
       goes =
-          λ f d o mode n.
-          a .goes f d o mode n
-          ∙ rw (add-assoc n i 1, add-assoc held i 1) at (text-on mode f d o (n + i) (held + i) g bs i c h k e);
+          λ f d o mode frame n.
+          a .goes f d o mode frame n
+          ∙ rw (add-assoc n i 1, add-assoc held i 1) at (text-on mode frame f d o (n + i) (held + i) g bs i c h k e);
     }
 
 -- ---- Plain bytes
@@ -164,55 +170,63 @@ module _ (held from : ℕ) (bs g : List ℕ) where
 -- ---- Bytes outside of groups
 
 pub passes-none : (p : Phase) (bs : List ℕ) → Passes p bs (record { phase = p; count = 0 })
-passes-none p bs = record { most = omega arith; goes = λ mode n g. rw (add-zero n) }
+passes-none p bs = record { most = omega arith; goes = λ mode frame n g. rw (add-zero n) }
 
 module _ (p q : Phase) (bs : List ℕ) (i : ℕ) (a : Passes p bs (record { phase = q; count = i })) (h : i < length bs) where
-  passes-by : (t : Phase) → ((mode : ℕ) (g : List ℕ) → stepped (stateOf mode q 0) g (getD bs i 0) ≡ record { result = quietOf mode t 0; content = g })
+  passes-by : (t : Phase)
+      → ((mode frame : ℕ) (g : List ℕ)
+      → stepped (stateOf mode frame q 0) g (getD bs i 0) ≡ record { result = quietOf mode frame t 0; content = g })
       → Passes p bs (record { phase = t; count = i + 1 })
   unfolding fed
   passes-by t e =
       record {
         most = omega arith;
         goes =
-            λ mode n g.
-            a .goes mode n g
-            ∙ rw (drop-cons bs i 0 h, e mode g, add-assoc n i 1, add-one i);
+            λ mode frame n g.
+            a .goes mode frame n g
+            ∙ rw (drop-cons bs i 0 h, e mode frame g, add-assoc n i 1, add-one i);
       }
 
-  pub passes-quiet : (t : Phase) → move q (symbolOf (getD bs i 0)) ≡ Quiet t → Passes p bs (record { phase = t; count = i + 1 })
-  passes-quiet t e = passes-by t (λ mode g. steps-as mode q 0 g (getD bs i 0) (omega arith) ∙ rw e)
+  -- what does nothing but change the phase is no STX
+  pub passes-quiet : (t : Phase) → ((frame : ℕ) → frameAt frame (symbolOf (getD bs i 0)) ≡ frame)
+      → move q (symbolOf (getD bs i 0)) ≡ Quiet t → Passes p bs (record { phase = t; count = i + 1 })
+  passes-quiet t same e =
+      passes-by t (λ mode frame g. steps-as mode frame q 0 g (getD bs i 0) (omega arith) ∙ rw (e, same frame))
 
-  pub passes-opens : (flaw : Bool) → move q (symbolOf (getD bs i 0)) ≡ Opens flaw
+  pub passes-opens : (flaw : Bool) → ((frame : ℕ) → frameAt frame (symbolOf (getD bs i 0)) ≡ frame)
+      → move q (symbolOf (getD bs i 0)) ≡ Opens flaw
       → Passes p bs (record { phase = Group flaw false false; count = i + 1 })
-  passes-opens flaw e = passes-by (Group flaw false false) (λ mode g. steps-as mode q 0 g (getD bs i 0) (omega arith) ∙ rw e)
+  passes-opens flaw same e =
+      passes-by (Group flaw false false)
+      (λ mode frame g. steps-as mode frame q 0 g (getD bs i 0) (omega arith) ∙ rw (e, same frame))
 
--- outside, nothing but an STX does anything
-other-character : (c : ℕ) → eqb c STX ≡ false → move Outside (soundSymbol c) ≡ Quiet Outside
+-- STX has one wire byte, and no other byte is a sound STX
+pub is-stx : {b stx : ℕ} → stx ≡ wireByteOf STX → b ≡ stx → symbolOf b ≡ Stx
 unfolding soundSymbol pick
-other-character c e = rw e (go (eqb c ETX) (eqb c EOT) (eqb c LF) (eqb c CR))
-  where
-    go : (etx eot lf cr : Bool)
-        → move Outside (pick etx Etx (pick eot Eot (pick lf Lf (pick cr Cr (Text c))))) ≡ Quiet Outside
-    go true eot lf cr = refl
-    go false true lf cr = refl
-    go false false true cr = refl
-    go false false false true = refl
-    go false false false false = refl
+is-stx w e = rw (e, w, wire-symbol STX (omega arith))
 
-pub passes-other : (b stx : ℕ) → b < 256 → stx ≡ wireByteOf STX → (b ≡ stx → ⊥) → move Outside (symbolOf b) ≡ Quiet Outside
-unfolding symbolOf pick
-passes-other b stx h w other = go (isSound b) (eqb (characterOf b) STX) refl refl
+pub not-stx : (b stx : ℕ) → b < 256 → stx ≡ wireByteOf STX → (b ≡ stx → ⊥) → is STX b ≡ false
+unfolding is
+not-stx b stx h w other = go (isSound b) (eqb (characterOf b) STX) refl refl
   where
-    go : (sound begins : Bool) → isSound b ≡ sound → eqb (characterOf b) STX ≡ begins
-        → move Outside (pick sound (soundSymbol (characterOf b)) Damaged) ≡ Quiet Outside
+    go : (sound begins : Bool) → isSound b ≡ sound → eqb (characterOf b) STX ≡ begins → (sound && begins) ≡ false
     go false begins s e = refl
-    go true false s e = other-character (characterOf b) e
+    go true false s e = refl
     go true true s e =
         absurd (other (sym (sound-exactly b h .0 s) ∙ ap wireByteOf (eqb-true (characterOf b) STX e) ∙ sym w))
 
-pub passes-stx : {b stx : ℕ} → stx ≡ wireByteOf STX → b ≡ stx → move Outside (symbolOf b) ≡ Quiet (Frame false)
-unfolding soundSymbol pick
-passes-stx w e = rw (e, w, wire-symbol STX (omega arith))
+-- outside, nothing but an STX does anything
+pub passes-other : (b : ℕ) → is STX b ≡ false → move Outside (symbolOf b) ≡ Quiet Outside
+passes-other b e = go (symbolOf b) (sym (tests b .0) ∙ e)
+  where
+    go : (y : Symbol) → isAs STX y ≡ false → move Outside y ≡ Quiet Outside
+    go Stx t = absurd (false≢true (sym t))
+    go Etx t = refl
+    go Eot t = refl
+    go Lf t = refl
+    go Cr t = refl
+    go Damaged t = refl
+    go (Text c) t = refl
 
 -- an LF in a frame
 lf-symbol : symbolOf 10 ≡ Lf
@@ -222,7 +236,8 @@ lf-symbol = rw (control-wires .4) at (wire-symbol LF (omega arith))
 pub passes-lf : (flaw : Bool) (bs : List ℕ) → 0 < length bs → getD bs 0 0 ≡ 10
     → Passes (Frame flaw) bs (record { phase = Group flaw false false; count = 1 })
 passes-lf flaw bs h e =
-    passes-opens (Frame flaw) (Frame flaw) bs 0 (passes-none (Frame flaw) bs) h flaw (rw (e, lf-symbol))
+    passes-opens (Frame flaw) (Frame flaw) bs 0 (passes-none (Frame flaw) bs) h flaw
+    (λ frame. rw (e, lf-symbol)) (rw (e, lf-symbol))
 
 -- what a frame takes without an answer flaws it
 pub quiet-flaws : (flaw : Bool) (y : Symbol) (t : Phase) → move (Frame flaw) y ≡ Quiet t
@@ -235,19 +250,40 @@ quiet-flaws flaw Cr t e = refl
 quiet-flaws flaw Damaged t e = refl
 quiet-flaws flaw (Text c) t e = refl
 
+-- and it is no STX, as that gives an answer in a frame; nor is what opens a group
+pub quiet-same : (flaw : Bool) (y : Symbol) (t : Phase) → move (Frame flaw) y ≡ Quiet t → (frame : ℕ)
+    → frameAt frame y ≡ frame
+quiet-same flaw Stx t e frame = let z : _≡_ {A = ℕ} 0 1 = cc e in absurd (omega arith)
+quiet-same flaw Etx t e frame = refl
+quiet-same flaw Eot t e frame = refl
+quiet-same flaw Lf t e frame = refl
+quiet-same flaw Cr t e frame = refl
+quiet-same flaw Damaged t e frame = refl
+quiet-same flaw (Text c) t e frame = refl
+
+pub opens-same : (flaw : Bool) (y : Symbol) (same : Bool) → move (Frame flaw) y ≡ Opens same → (frame : ℕ)
+    → frameAt frame y ≡ frame
+opens-same flaw Stx same e frame = let z : _≡_ {A = ℕ} 0 1 = cc e in absurd (omega arith)
+opens-same flaw Etx same e frame = refl
+opens-same flaw Eot same e frame = refl
+opens-same flaw Lf same e frame = refl
+opens-same flaw Cr same e frame = refl
+opens-same flaw Damaged same e frame = refl
+opens-same flaw (Text c) same e frame = refl
+
 -- ---- A line that takes them
 
 -- outside of groups a line holds no content
 pub runs-passed : (l : LineState) {p : Phase} {bs : List ℕ} {a : Passed} {r : Run} → p ≡ phaseOf l
-    → ((mode h : ℕ) → stateOf mode p h ≡ stateOf mode p 0) → Passes p bs a → r ≡ emptyRun a → RunsQuietly l bs r
+    → ((mode frame h : ℕ) → stateOf mode frame p h ≡ stateOf mode frame p 0) → Passes p bs a → r ≡ emptyRun a → RunsQuietly l bs r
 runs-passed l {bs = bs} e empty a q g =
     rw q (record {
       most = a .most;
       held-most = omega arith;
       goes =
           λ n some.
-          rw (← e, empty (l .mode) (heldIn l)) at (as-written l n g bs some)
-          ∙ a .goes (l .mode) n g;
+          rw (← e, empty (l .mode) (l .frame) (heldIn l)) at (as-written l n g bs some)
+          ∙ a .goes (l .mode) (l .frame) n g;
     })
 
 pub runs-group : (l : LineState) {p : Phase} {f d o : Bool} {bs : List ℕ} {h : ℕ} → p ≡ phaseOf l → p ≡ Group f d o
@@ -261,7 +297,7 @@ runs-group l {bs = bs} e q k g =
 
 pub takes-none : (p : Phase) (held : ℕ) (g bs : List ℕ) → held ≤ 128 → Takes p held g bs 0 g
 takes-none p held g bs h =
-    record { most = omega arith; room = omega arith; goes = λ mode n. rw (add-zero n, add-zero held) }
+    record { most = omega arith; room = omega arith; goes = λ mode frame n. rw (add-zero n, add-zero held) }
 
 pub takes-added : {p : Phase} {f d o : Bool} {held : ℕ} {g bs : List ℕ} {count : ℕ} {left : List ℕ} → p ≡ Group f d o
     → Adds held g bs count left → Takes p held g bs count left
@@ -289,7 +325,7 @@ module _ {l : LineState} {g g' bs : List ℕ} (a : Run) (more : ℕ) (x : RunsQu
         goes =
             λ n some.
             x g .goes n some
-            ∙ rw (rest-is bs (a .count)) at (y .goes (l .mode) (n + a .count))
+            ∙ rw (rest-is bs (a .count)) at (y .goes (l .mode) (l .frame) (n + a .count))
             ∙ rw (drop-drop more (a .count) bs, add-assoc n (a .count) more);
       }
 
@@ -303,7 +339,7 @@ module _ (l : LineState) (g bs : List ℕ) (i : ℕ) (h : i < length bs) (r : Ru
       omega arith
 
   pub run-on : fed i l g (drop i bs)
-      ≡ fed (i + r .count) (stateOf (l .mode) (r .phase) (r .held)) g' (drop (i + r .count) bs)
+      ≡ fed (i + r .count) (stateOf (l .mode) (l .frame) (r .phase) (r .held)) g' (drop (i + r .count) bs)
   run-on =
       let some : 0 < length (drop i bs) = simp length-drop (omega arith) in
       let goes = rw (rest-is bs i) at (runs .goes i) in

@@ -5,7 +5,7 @@ use mathlib.Core.Path.{_≡_}
 use mathlib.Core.Bool.{Bool, true, false, not, _&&_, _||_}
 use mathlib.Core.Option.{Option, none, some}
 use mathlib.Core.List.{List, [], _∷_, _++_, map}
-use Prim.Native.Nat.{ℕ, suc}
+use Prim.Native.Nat.{ℕ, suc, _%_}
 use lib.Dec.{T, eqb}
 use Rattle.characters.specs.Answers.{every, pick, firstOf}
 use Rattle.characters.specs.Wire.{isSound, characterOf, STX, ETX, EOT, LF, CR}
@@ -14,7 +14,7 @@ use Rattle.groups.specs.Conditions.{conditions, fieldsAt}
 use Rattle.groups.specs.Place.{placeBy}
 use Rattle.groups.specs.Right.{RightGroup}
 use Rattle.groups.specs.declared.Mode.{Mode}
-use Rattle.line.specs.Entries.{Entry, accepted, refusedAt, only, entryList}
+use Rattle.line.specs.Entries.{Entry, accepted, refusedAt, only, Framed, framedIf, entryList}
 
 -- a sound byte of this character: "An unsound byte is never a control character."
 unfoldable pub is : ℕ → ℕ → Bool
@@ -92,10 +92,26 @@ dueInFrame m (some since) b =
 unfoldable pub answerDue : Mode → List ℕ → ℕ → Option Entry
 answerDue m before b = dueInFrame m (openFrame before) b
 
--- the answers due to bytes one after the other, behind those before them
-unfoldable pub answersDue : Mode → List ℕ → List ℕ → List Entry
+-- ---- The number of its frame
+
+module _ {A : Type 0} where
+  -- how many of some are so
+  abbrev pub countOf : (A → Bool) → List A → ℕ
+  countOf f [] = 0
+  countOf f (x ∷ xs) = pick (f x) (suc (countOf f xs)) (countOf f xs)
+
+-- document 02, M-108: "0 when opened, one more at every STX, 65,535 followed by 0"; how many STX there are since the opening
+unfoldable pub frameNumber : List ℕ → ℕ
+frameNumber bytes = countOf (is STX) bytes % 65536
+
+-- the answer due to the next byte with its number, in which this byte counts: "an answer 5 carries the new number"
+abbrev pub entryDue : Mode → List ℕ → ℕ → Option (Framed Entry)
+entryDue m before b = framedIf (frameNumber (before ++ b ∷ [])) (answerDue m before b)
+
+-- those due to bytes one after the other, behind those before them
+unfoldable pub answersDue : Mode → List ℕ → List ℕ → List (Framed Entry)
 answersDue m before [] = []
-answersDue m before (b ∷ bs) = entryList (answerDue m before b) ++ answersDue m (before ++ b ∷ []) bs
+answersDue m before (b ∷ bs) = entryList (entryDue m before b) ++ answersDue m (before ++ b ∷ []) bs
 
 abbrev pub isAnswered : Option Entry → Bool
 isAnswered none = false

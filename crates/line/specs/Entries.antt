@@ -23,15 +23,28 @@ refusedAt n place = record { number = n; label = []; stamp = []; «data» = []; 
 abbrev pub only : ℕ → Entry
 only n = refusedAt n 0
 
--- "Each byte gives at most one answer": one, or none, as a list
-abbrev pub entryList : Option Entry → List Entry
-entryList none = []
-entryList (some e) = e ∷ []
+-- "Every sheet entry carries it": an answer with the number of its frame (document 02, M-108); so does a line
+pub record Framed (A : Type 0) : Type 0 where
+  pub frame : ℕ
+  pub what : A
 
--- the first of some, if there is one
-abbrev pub firstEntry : List Entry → Option Entry
-firstEntry [] = none
-firstEntry (e ∷ more) = some e
+module _ {A : Type 0} where
+  abbrev pub framed : ℕ → A → Framed A
+  framed n a = record { frame = n; what = a }
+
+  abbrev pub framedIf : ℕ → Option A → Option (Framed A)
+  framedIf n none = none
+  framedIf n (some a) = some (framed n a)
+
+  -- "Each byte gives at most one answer": one, or none, as a list
+  abbrev pub entryList : Option A → List A
+  entryList none = []
+  entryList (some e) = e ∷ []
+
+  -- the first of some, if there is one
+  abbrev pub firstEntry : List A → Option A
+  firstEntry [] = none
+  firstEntry (e ∷ more) = some e
 
 -- the number of an answer; 0 stands for none, which document 01 gives no number (its 0 is for calls)
 abbrev pub numberIn : Option Entry → ℕ

@@ -86,9 +86,10 @@ unfoldable pub after : ℕ → State → List ℕ → State
 after mode s [] = s
 after mode s (b ∷ bs) = after mode (step mode s b .state) bs
 
-abbrev pub andThen : Option LineAnswer → List LineAnswer → List LineAnswer
-andThen none more = more
-andThen (some a) more = a ∷ more
+module _ {A : Type 0} where
+  abbrev pub andThen : Option A → List A → List A
+  andThen none more = more
+  andThen (some a) more = a ∷ more
 
 -- at most one answer, as a list
 abbrev pub listed : Option LineAnswer → List LineAnswer

@@ -4,7 +4,7 @@ use Prim.Native.Nat.{ℕ}
 use Rattle.characters.specs.Answers.{refused, given}
 use Rattle.groups.specs.Numbers.{numberOfRefusal}
 use Rattle.line.specs.Lines.{LineAnswer}
-use Rattle.line.specs.Entries.{Entry, accepted, refusedAt}
+use Rattle.line.specs.Entries.{Entry, accepted, refusedAt, Framed, framed}
 use Rattle.line.specs.declared.Notice.{Notice}
 use Rattle.line.specs.declared.Notice.the-variants.{
   FrameSound,
@@ -52,6 +52,10 @@ shown (refused notice) = refusedAt (numberOfNotice notice) (placeOfNotice notice
 abbrev pub shownIf : Option LineAnswer → Option Entry
 shownIf none = none
 shownIf (some a) = some (shown a)
+
+-- with the number of its frame
+abbrev pub shownFramed : Framed LineAnswer → Framed Entry
+shownFramed a = framed (a .frame) (shown (a .what))
 
 -- what the code heard; 0 stands for no answer, which document 01 gives no number (its 0 is for calls)
 abbrev pub numberOf : Heard → ℕ

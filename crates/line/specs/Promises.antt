@@ -4,11 +4,11 @@ use mathlib.Core.Logic.{_↔_}
 use mathlib.Core.Bool.{Bool, true, false, not, _||_}
 use mathlib.Core.Option.{none, some}
 use mathlib.Core.List.{List, [], _∷_, _++_, map}
-use Prim.Native.Nat.{ℕ, _<_}
+use Prim.Native.Nat.{ℕ, suc, _%_, _<_}
 use lib.Dec.{T, eqb}
 use lib.ListN.{length, take}
 use Rattle.characters.specs.Answers.{given, refused, every, pick}
-use Rattle.characters.specs.Wire.{isSound, characterOf, CR, ETX}
+use Rattle.characters.specs.Wire.{isSound, characterOf, STX, CR, ETX}
 use Rattle.groups.specs.Kinds.{within}
 use Rattle.groups.specs.Modes.{modeOf, isMode, separator}
 use Rattle.groups.specs.Groups.{Group}
@@ -19,19 +19,23 @@ use Rattle.groups.specs.declared.Mode.{Mode}
 use Rattle.line.specs.Symbols.{symbolOf}
 use Rattle.line.specs.Lines.{LineAnswer, State, isRefused, step, after, answers, outside, inFrame, untilAnswer}
 use Rattle.line.specs.Between.{noControl, noStx, groupAnswer, SoundFrame}
-use Rattle.line.specs.Entries.{accepted, only, numberIn, placeIn}
+use Rattle.line.specs.Entries.{Entry, accepted, only, Framed, framed, numberIn, placeIn}
+use Rattle.line.specs.FrameNumbers.{begun, framedAfter, framedAnswers}
 use Rattle.line.specs.ByBytes.{
   is,
   openFrame,
   openGroup,
   groupDue,
   answerDue,
+  countOf,
+  frameNumber,
+  entryDue,
   answersDue,
   upToAnswer,
   EndsInRightGroup,
   RightFrame,
 }
-use Rattle.line.specs.Numbers.{numberOfAnswer, shown, shownIf, numberOf, placeOf, numberOfOpening}
+use Rattle.line.specs.Numbers.{numberOfAnswer, shown, shownIf, shownFramed, numberOf, placeOf, numberOfOpening}
 use Rattle.line.specs.State.{lineOf, openingOf}
 use Rattle.line.specs.Steps.{heardAnswer, fed}
 use Rattle.line.specs.Views.{FedView, fed-view}
@@ -40,6 +44,7 @@ use Rattle.line.specs.Laws.Groups.{group-answered, group-ends}
 use Rattle.line.specs.Laws.Written.{written-sent}
 use Rattle.line.specs.Laws.Frames.{stx-restarts, frame-sound}
 use Rattle.line.specs.Laws.ByBytes as by-bytes
+use Rattle.line.specs.Laws.FrameNumbers as frames
 use Rattle.line.specs.Laws.GroupsByBytes as group-laws
 use Rattle.line.specs.Laws.PlacesByBytes as places
 use Rattle.line.specs.Laws.AcceptedByBytes as accepted-laws
@@ -77,9 +82,9 @@ written-in-frame = written-sent
 pub opening-number : (mode : ℕ) → numberOfOpening (openingOf mode) ≡ pick (isMode mode) 0 19
 opening-number = numbers.opening-numbered
 
--- A line that is opened is outside, in the mode that was asked for.
+-- A line that is opened is outside, in the mode that was asked for, and its frame number is 0.
 pub opened-outside : (mode : ℕ) (l : LineState) (content : List ℕ) → openingOf mode ≡ Opened l
-    → (lineOf l content ≡ outside) × (l .mode ≡ mode)
+    → (lineOf l content ≡ outside) × (l .mode ≡ mode) × (l .frame ≡ 0)
 opened-outside = numbers.opened-outside
 
 -- An answer has one number: alone, with its fields as a sheet shows it, and as the code heard it, 0 where it heard none.
@@ -110,15 +115,41 @@ pub answer-by-bytes : (mode : ℕ) (m : Mode) → modeOf mode ≡ some m → (be
     → shownIf (step mode (after mode outside before) b .answer) ≡ answerDue m before b
 answer-by-bytes = by-bytes.answer-by-bytes
 
--- So are all answers to bytes that follow, one after the other.
+-- So are all answers to bytes that follow, one after the other, with the numbers of their frames (document 02, M-108).
 pub answers-by-bytes : (mode : ℕ) (m : Mode) → modeOf mode ≡ some m → (before bs : List ℕ)
-    → map shown (answers mode (after mode outside before) bs) ≡ answersDue m before bs
+    → map shownFramed (framedAnswers mode (framedAfter mode begun before) bs) ≡ answersDue m before bs
 answers-by-bytes = by-bytes.answers-behind
 
 -- From the opening on too.
 pub opened-by-bytes : (mode : ℕ) (m : Mode) → modeOf mode ≡ some m → (bs : List ℕ)
-    → map shown (answers mode outside bs) ≡ answersDue m [] bs
+    → map shownFramed (framedAnswers mode begun bs) ≡ answersDue m [] bs
 opened-by-bytes = by-bytes.all-by-bytes
+
+-- Without its number an answer is the line's, which knows of none.
+pub answers-bare : (mode : ℕ) (s : Framed State) (bs : List ℕ)
+    → map (λ (a : Framed LineAnswer). a .what) (framedAnswers mode s bs) ≡ answers mode (s .what) bs
+answers-bare = frames.answers-bare
+
+-- The number of a frame, by the bytes alone: with an answer it is the count of the sound STX since the opening, its own byte
+-- among them, by remainder of 65,536.
+pub number-counted : (m : Mode) (before : List ℕ) (b : ℕ) (e : Framed Entry) → entryDue m before b ≡ some e
+    → (e .frame ≡ countOf (is STX) (before ++ b ∷ []) % 65536) × (answerDue m before b ≡ some (e .what))
+number-counted = frames.number-counted
+
+-- The same in document 02's words: "0 when opened, one more at every STX, 65,535 followed by 0".
+pub number-opened : frameNumber [] ≡ 0
+number-opened = frames.number-opened
+
+pub number-next : (before : List ℕ) (b : ℕ)
+    → frameNumber (before ++ b ∷ [])
+    ≡ pick (is STX b) (pick (eqb (frameNumber before) 65535) 0 (suc (frameNumber before))) (frameNumber before)
+number-next = frames.number-next
+
+-- So it tells "which groups came together": of two bytes with fewer than 65,536 STX between them it is the same exactly where
+-- there is none between them.
+pub number-same : (before bs : List ℕ) → countOf (is STX) bs < 65536
+    → (frameNumber (before ++ bs) ≡ frameNumber before) ↔ (countOf (is STX) bs ≡ 0)
+number-same = frames.number-same
 
 -- And so is the count of bytes up to and including the first that gives an answer.
 pub count-by-bytes : (mode : ℕ) (m : Mode) → modeOf mode ≡ some m → (before bs : List ℕ)
@@ -159,10 +190,11 @@ pub sound-by-bytes : (m : Mode) (before since : List ℕ) (etx : ℕ) → openFr
     → (answerDue m before etx ≡ some (only 2)) ↔ RightFrame m since
 sound-by-bytes = sound-laws.sound-by-bytes
 
--- What the writer makes of a group, sent in an open frame with no group open, is answered by exactly this group.
+-- What the writer makes of a group, sent in an open frame with no group open, is answered by exactly this group, with the
+-- number of this frame.
 pub written-by-bytes : (mode : ℕ) (m : Mode) → modeOf mode ≡ some m → (g : Group) (room : ℕ) (w : List ℕ)
     → writing mode g room ≡ given w → (before since : List ℕ) → openFrame before ≡ some since
-    → openGroup since ≡ none → answersDue m before w ≡ accepted g ∷ []
+    → openGroup since ≡ none → answersDue m before w ≡ framed (frameNumber before) (accepted g) ∷ []
 written-by-bytes = by-bytes.written-by-bytes
 
 -- Wherever a line is, an STX puts it into a frame without a flaw.
@@ -174,7 +206,7 @@ pub unsound-never-control : (b : ℕ) → isSound b ≡ false → symbolOf b ≡
 unsound-never-control = unsound-damaged
 
 -- What the code does to its numbers and the lent bytes, on every value, is what the line does: as many bytes as there
--- are up to the first answer, the line after them, their answer, and its fields inside the lent bytes.
+-- are up to the first answer, the line and its frame number after them, their answer, and its fields inside the lent bytes.
 pub fed-as-the-line : (l : LineState) (content bs : List ℕ) → length content ≡ 128
-    → FedView (l .mode) 0 (fed 0 l content bs) (lineOf l content) bs
+    → FedView (l .mode) (l .frame) 0 (fed 0 l content bs) (lineOf l content) bs
 fed-as-the-line = fed-view 0

@@ -1,5 +1,5 @@
--- What the contracts of the functions that take bytes in a row cite: what is left then leads to the same result. No
--- promise rests on a reader's belief in these.
+-- What the contracts of the functions that take bytes in a row cite: what is left then leads to the same result. No row has
+-- an STX, so a line keeps its frame number. No promise rests on a reader's belief in these.
 use mathlib.Core.Path.{_≡_}
 use mathlib.Core.Bool.{Bool, _&&_, _||_}
 use mathlib.Core.List.{List}
@@ -20,8 +20,8 @@ use Rattle.line.specs.declared.rows.Run.{Run}
 -- a line in a phase, whose group holds some characters, takes so many bytes at the front, and holds as many more
 abbrev Holds : Phase → ℕ → List ℕ → List ℕ → ℕ → List ℕ → Type 0
 Holds p held content bytes count left =
-    (mode n : ℕ) → fed n (stateOf mode p held) content bytes
-    ≡ fed (n + count) (stateOf mode p (held + count)) left (drop count bytes)
+    (mode frame n : ℕ) → fed n (stateOf mode frame p held) content bytes
+    ≡ fed (n + count) (stateOf mode frame p (held + count)) left (drop count bytes)
 
 pub record Takes (p : Phase) (held : ℕ) (content bytes : List ℕ) (count : ℕ) (left : List ℕ) : Type 0 where
   pub most : count ≤ length bytes
@@ -47,9 +47,9 @@ isPlainByte byte = isSound byte && (leb SP (characterOf byte) || eqb byte HT)
 -- so many bytes at the front, taken by a line without content
 pub record Passes (p : Phase) (bytes : List ℕ) (r : Passed) : Type 0 where
   pub most : r .count ≤ length bytes
-  pub goes : (mode n : ℕ) (content : List ℕ)
-      → fed n (stateOf mode p 0) content bytes
-      ≡ fed (n + r .count) (stateOf mode (r .phase) 0) content (drop (r .count) bytes)
+  pub goes : (mode frame n : ℕ) (content : List ℕ)
+      → fed n (stateOf mode frame p 0) content bytes
+      ≡ fed (n + r .count) (stateOf mode frame (r .phase) 0) content (drop (r .count) bytes)
 
 -- what is left then holds no content
 abbrev pub emptyRun : Passed → Run
@@ -62,7 +62,8 @@ pub record Runs (l : LineState) (content bytes : List ℕ) (r : Run) (left : Lis
   pub most : r .count ≤ length bytes
   pub held-most : r .held ≤ 128
   pub goes : (n : ℕ) → 0 < length bytes
-      → fed n l content bytes ≡ fed (n + r .count) (stateOf (l .mode) (r .phase) (r .held)) left (drop (r .count) bytes)
+      → fed n l content bytes
+      ≡ fed (n + r .count) (stateOf (l .mode) (l .frame) (r .phase) (r .held)) left (drop (r .count) bytes)
 
 -- the same where no content is looked at
 abbrev pub RunsQuietly : LineState → List ℕ → Run → Type 0

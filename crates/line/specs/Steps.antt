@@ -19,6 +19,7 @@ use Rattle.groups.specs.declared.Refusal.the-variants.{TooLong}
 use Rattle.line.specs.Symbols.{symbolOf}
 use Rattle.line.specs.Rules.{move}
 use Rattle.line.specs.Lines.{LineAnswer}
+use Rattle.line.specs.FrameNumbers.{frameAt}
 use Rattle.line.specs.State.{phaseOf, heldIn, stateOf}
 use Rattle.line.specs.declared.LineState.{LineState}
 use Rattle.line.specs.declared.Fields.{Fields}
@@ -57,33 +58,35 @@ heardOf mode damaged overlong content n =
     pick damaged (Told GroupDamaged)
     (pick overlong (Told (GroupRefused TooLong 0)) (heardFrom (judgement mode (take n content))))
 
-abbrev pub endedOf : ℕ → Bool → Heard → Reaction
-endedOf mode flaw (Accepted fields) = record { line = stateOf mode (Frame flaw) 0; heard = Accepted fields }
-endedOf mode flaw (Told notice) = record { line = stateOf mode (Frame true) 0; heard = Told notice }
-endedOf mode flaw Nothing = record { line = stateOf mode (Frame true) 0; heard = Nothing }
+abbrev pub endedOf : ℕ → ℕ → Bool → Heard → Reaction
+endedOf mode frame flaw (Accepted fields) = record { line = stateOf mode frame (Frame flaw) 0; heard = Accepted fields }
+endedOf mode frame flaw (Told notice) = record { line = stateOf mode frame (Frame true) 0; heard = Told notice }
+endedOf mode frame flaw Nothing = record { line = stateOf mode frame (Frame true) 0; heard = Nothing }
 
-abbrev pub quietOf : ℕ → Phase → ℕ → Reaction
-quietOf mode p n = record { line = stateOf mode p n; heard = Nothing }
+abbrev pub quietOf : ℕ → ℕ → Phase → ℕ → Reaction
+quietOf mode frame p n = record { line = stateOf mode frame p n; heard = Nothing }
 
 -- the result of a byte, and the lent bytes after it
 pub record After : Type 0 where
   pub result : Reaction
   pub content : List ℕ
 
-abbrev pub acted : ℕ → ℕ → List ℕ → Move → After
-acted mode n content (Quiet p) = record { result = quietOf mode p n; content = content }
-acted mode n content (Opens flaw) = record { result = quietOf mode (Group flaw false false) 0; content = content }
-acted mode n content (Says p notice) =
-    record { result = record { line = stateOf mode p 0; heard = Told notice }; content = content }
-acted mode n content (Adds flaw damaged overlong c) =
+-- on a line of a mode, whose frame has this number after the byte, with so many characters of content
+abbrev pub acted : ℕ → ℕ → ℕ → List ℕ → Move → After
+acted mode frame n content (Quiet p) = record { result = quietOf mode frame p n; content = content }
+acted mode frame n content (Opens flaw) = record { result = quietOf mode frame (Group flaw false false) 0; content = content }
+acted mode frame n content (Says p notice) =
+    record { result = record { line = stateOf mode frame p 0; heard = Told notice }; content = content }
+acted mode frame n content (Adds flaw damaged overlong c) =
     pick (ltb n 128)
-    (record { result = quietOf mode (Group flaw damaged overlong) (n + 1); content = set content n c })
-    (record { result = quietOf mode (Group flaw damaged true) n; content = content })
-acted mode n content (Judges flaw damaged overlong) =
-    record { result = endedOf mode flaw (heardOf mode damaged overlong content n); content = content }
+    (record { result = quietOf mode frame (Group flaw damaged overlong) (n + 1); content = set content n c })
+    (record { result = quietOf mode frame (Group flaw damaged true) n; content = content })
+acted mode frame n content (Judges flaw damaged overlong) =
+    record { result = endedOf mode frame flaw (heardOf mode damaged overlong content n); content = content }
 
 unfoldable pub stepped : LineState → List ℕ → ℕ → After
-stepped l content byte = acted (l .mode) (heldIn l) content (move (phaseOf l) (symbolOf byte))
+stepped l content byte =
+    acted (l .mode) (frameAt (l .frame) (symbolOf byte)) (heldIn l) content (move (phaseOf l) (symbolOf byte))
 
 pub record Stepped (a : After) (result : Reaction) (content : List ℕ) : Type 0 where
   pub results : result ≡ a .result

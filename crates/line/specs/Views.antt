@@ -38,6 +38,7 @@ use Rattle.line.specs.Lines.{
   onward,
   untilAnswer,
 }
+use Rattle.line.specs.FrameNumbers.{frameAt, frameAfter}
 use Rattle.line.specs.State.{isSet, phaseOf, heldIn, lineOf, stateOf}
 use Rattle.line.specs.Steps.{
   heardAnswer,
@@ -82,11 +83,11 @@ mark-back true = refl
 mark-back false = refl
 
 -- and so does a phase
-pub phase-back : (mode : ℕ) (p : Phase) (n : ℕ) → phaseOf (stateOf mode p n) ≡ p
+pub phase-back : (mode frame : ℕ) (p : Phase) (n : ℕ) → phaseOf (stateOf mode frame p n) ≡ p
 unfolding phaseOf pick
-phase-back mode Outside n = refl
-phase-back mode (Frame flaw) n = rw (mark-back flaw)
-phase-back mode (InGroup flaw damaged overlong) n = rw (mark-back flaw, mark-back damaged, mark-back overlong)
+phase-back mode frame Outside n = refl
+phase-back mode frame (Frame flaw) n = rw (mark-back flaw)
+phase-back mode frame (InGroup flaw damaged overlong) n = rw (mark-back flaw, mark-back damaged, mark-back overlong)
 
 -- no more than 128 characters are held
 pub held-most : (l : LineState) → heldIn l ≤ 128
@@ -102,24 +103,30 @@ take-capped n g e =
     (λ t. let h = nltb→le n 128 t in take-all 128 g (omega arith) ∙ sym (take-all n g (omega arith)))
 
 -- the numbers of a line in a phase stand for the line in this phase
-pub state-back : (mode : ℕ) (p : Phase) (n : ℕ) (g : List ℕ) → length g ≡ 128
-    → lineOf (stateOf mode p n) g ≡ record { phase = p; content = heldBy p (take n g) }
+pub state-back : (mode frame : ℕ) (p : Phase) (n : ℕ) (g : List ℕ) → length g ≡ 128
+    → lineOf (stateOf mode frame p n) g ≡ record { phase = p; content = heldBy p (take n g) }
 unfolding lineOf phaseOf heldIn pick
-state-back mode Outside n g e = refl
-state-back mode (Frame flaw) n g e = rw (mark-back flaw)
-state-back mode (InGroup flaw damaged overlong) n g e =
+state-back mode frame Outside n g e = refl
+state-back mode frame (Frame flaw) n g e = rw (mark-back flaw)
+state-back mode frame (InGroup flaw damaged overlong) n g e =
     rw (mark-back flaw, mark-back damaged, mark-back overlong, take-capped n g e)
 
 -- a line that was just opened is outside, whatever the lent bytes are
-pub opened-view : (mode : ℕ) (g : List ℕ) → lineOf (stateOf mode Outside 0) g ≡ outside
+pub opened-view : (mode frame : ℕ) (g : List ℕ) → lineOf (stateOf mode frame Outside 0) g ≡ outside
 unfolding lineOf phaseOf pick
-opened-view mode g = refl
+opened-view mode frame g = refl
 
 -- the mode is written as it is
-pub mode-kept : (mode : ℕ) (p : Phase) (n : ℕ) → stateOf mode p n .mode ≡ mode
-mode-kept mode Outside n = refl
-mode-kept mode (Frame flaw) n = refl
-mode-kept mode (InGroup flaw damaged overlong) n = refl
+pub mode-kept : (mode frame : ℕ) (p : Phase) (n : ℕ) → stateOf mode frame p n .mode ≡ mode
+mode-kept mode frame Outside n = refl
+mode-kept mode frame (Frame flaw) n = refl
+mode-kept mode frame (InGroup flaw damaged overlong) n = refl
+
+-- and so is the frame number
+pub frame-kept : (mode frame : ℕ) (p : Phase) (n : ℕ) → stateOf mode frame p n .frame ≡ frame
+frame-kept mode frame Outside n = refl
+frame-kept mode frame (Frame flaw) n = refl
+frame-kept mode frame (InGroup flaw damaged overlong) n = refl
 
 -- of no content, a line in any phase holds none
 held-none : (p : Phase) → heldBy p [] ≡ []
@@ -130,10 +137,11 @@ held-none (InGroup flaw damaged overlong) = refl
 -- ---- One byte
 
 -- what a byte does to the numbers and the lent bytes is what it does to the line that they stand for: 128 lent bytes
--- again, the mode kept, the line, the answer; and an accepted group's fields lie in the lent bytes
-pub record StepView (mode : ℕ) (a : After) (s : Step) : Type 0 where
+-- again, the mode kept, the frame number, the line, the answer; and an accepted group's fields lie in the lent bytes
+pub record StepView (mode frame : ℕ) (a : After) (s : Step) : Type 0 where
   pub long : length (a .content) ≡ 128
   pub same-mode : a .result .line .mode ≡ mode
+  pub frame-is : a .result .line .frame ≡ frame
   pub line-is : lineOf (a .result .line) (a .content) ≡ s .state
   pub answer-is : heardAnswer (a .result .heard) (a .content) ≡ s .answer
   pub inside : FieldsInside (a .result .heard)
@@ -195,43 +203,45 @@ or-true true = refl
 or-true false = refl
 
 -- a group that is judged: the line is in the frame, and the answer is given
-ended-view : (mode : ℕ) (flaw : Bool) (h : Heard) (g : List ℕ) (a : LineAnswer) → length g ≡ 128 → JudgedAs h g a
-    → StepView mode (record { result = endedOf mode flaw h; content = g }) (ended flaw a)
+ended-view : (mode frame : ℕ) (flaw : Bool) (h : Heard) (g : List ℕ) (a : LineAnswer) → length g ≡ 128 → JudgedAs h g a
+    → StepView mode frame (record { result = endedOf mode frame flaw h; content = g }) (ended flaw a)
 unfolding heardAnswer
-ended-view mode flaw Nothing g a e v = let z : _≡_ {A = ℕ} 0 1 = cc (v .told) in absurd (omega arith)
-ended-view mode flaw (Accepted fields) g (refused notice) e v =
+ended-view mode frame flaw Nothing g a e v = let z : _≡_ {A = ℕ} 0 1 = cc (v .told) in absurd (omega arith)
+ended-view mode frame flaw (Accepted fields) g (refused notice) e v =
     let z : _≡_ {A = ℕ} 0 1 = cc (v .told) in absurd (omega arith)
-ended-view mode flaw (Accepted fields) g (given w) e v =
+ended-view mode frame flaw (Accepted fields) g (given w) e v =
     record {
       long = e;
       same-mode = refl;
-      line-is = rw (or-false flaw) (state-back mode (Frame flaw) 0 g e);
+      frame-is = refl;
+      line-is = rw (or-false flaw) (state-back mode frame (Frame flaw) 0 g e);
       answer-is = v .told;
       inside = v .fits;
     }
-ended-view mode flaw (Told notice) g (refused other) e v =
+ended-view mode frame flaw (Told notice) g (refused other) e v =
     record {
       long = e;
       same-mode = refl;
-      line-is = rw (or-true flaw) (state-back mode (Frame true) 0 g e);
+      frame-is = refl;
+      line-is = rw (or-true flaw) (state-back mode frame (Frame true) 0 g e);
       answer-is = v .told;
       inside = tt;
     }
-ended-view mode flaw (Told notice) g (given w) e v =
+ended-view mode frame flaw (Told notice) g (given w) e v =
     let z : _≡_ {A = ℕ} 0 1 = cc (v .told) in absurd (omega arith)
 
 -- a character that is added to the n characters of the group
-added-view : (mode : ℕ) (flaw damaged overlong : Bool) (n c : ℕ) (g : List ℕ) → length g ≡ 128 → n ≤ 128
-    → StepView mode (acted mode n g (Adds flaw damaged overlong c))
+added-view : (mode frame : ℕ) (flaw damaged overlong : Bool) (n c : ℕ) (g : List ℕ) → length g ≡ 128 → n ≤ 128
+    → StepView mode frame (acted mode frame n g (Adds flaw damaged overlong c))
     (record { state = added flaw damaged overlong (take n g) c; answer = none })
 unfolding added heardAnswer pick
-added-view mode flaw damaged overlong n c g e k = rw (length-take-le n g (omega arith)) (go (ltb n 128) refl)
+added-view mode frame flaw damaged overlong n c g e k = rw (length-take-le n g (omega arith)) (go (ltb n 128) refl)
   where
     go : (t : Bool) → ltb n 128 ≡ t
-        → StepView mode
+        → StepView mode frame
         (pick t
-        (record { result = quietOf mode (InGroup flaw damaged overlong) (n + 1); content = set g n c })
-        (record { result = quietOf mode (InGroup flaw damaged true) n; content = g }))
+        (record { result = quietOf mode frame (InGroup flaw damaged overlong) (n + 1); content = set g n c })
+        (record { result = quietOf mode frame (InGroup flaw damaged true) n; content = g }))
         (record {
           state =
               pick t
@@ -245,8 +255,9 @@ added-view mode flaw damaged overlong n c g e k = rw (length-take-le n g (omega 
         record {
           long = long;
           same-mode = refl;
+          frame-is = refl;
           line-is =
-              state-back mode (InGroup flaw damaged overlong) (n + 1) (set g n c) long
+              state-back mode frame (InGroup flaw damaged overlong) (n + 1) (set g n c) long
               ∙ rw (add-one n, take-suc-set g n c (omega arith));
           answer-is = refl;
           inside = tt;
@@ -255,42 +266,46 @@ added-view mode flaw damaged overlong n c g e k = rw (length-take-le n g (omega 
         record {
           long = e;
           same-mode = refl;
-          line-is = state-back mode (InGroup flaw damaged true) n g e;
+          frame-is = refl;
+          line-is = state-back mode frame (InGroup flaw damaged true) n g e;
           answer-is = refl;
           inside = tt;
         }
 
 -- what a move does, in a line with n characters of content
-act-view : (mode n : ℕ) (g : List ℕ) (x : Move) → length g ≡ 128 → n ≤ 128
-    → StepView mode (acted mode n g x) (does mode (take n g) x)
+act-view : (mode frame n : ℕ) (g : List ℕ) (x : Move) → length g ≡ 128 → n ≤ 128
+    → StepView mode frame (acted mode frame n g x) (does mode (take n g) x)
 unfolding heardAnswer
-act-view mode n g (Quiet p) e k =
+act-view mode frame n g (Quiet p) e k =
     record {
       long = e;
-      same-mode = mode-kept mode p n;
-      line-is = state-back mode p n g e;
+      same-mode = mode-kept mode frame p n;
+      frame-is = frame-kept mode frame p n;
+      line-is = state-back mode frame p n g e;
       answer-is = refl;
       inside = tt;
     }
-act-view mode n g (Opens flaw) e k =
+act-view mode frame n g (Opens flaw) e k =
     record {
       long = e;
       same-mode = refl;
-      line-is = state-back mode (InGroup flaw false false) 0 g e;
+      frame-is = refl;
+      line-is = state-back mode frame (InGroup flaw false false) 0 g e;
       answer-is = refl;
       inside = tt;
     }
-act-view mode n g (Says p notice) e k =
+act-view mode frame n g (Says p notice) e k =
     record {
       long = e;
-      same-mode = mode-kept mode p 0;
-      line-is = state-back mode p 0 g e ∙ rw (held-none p);
+      same-mode = mode-kept mode frame p 0;
+      frame-is = frame-kept mode frame p 0;
+      line-is = state-back mode frame p 0 g e ∙ rw (held-none p);
       answer-is = refl;
       inside = tt;
     }
-act-view mode n g (Adds flaw damaged overlong c) e k = added-view mode flaw damaged overlong n c g e k
-act-view mode n g (Judges flaw damaged overlong) e k =
-    ended-view mode flaw (heardOf mode damaged overlong g n) g _ e (verdict-view mode damaged overlong n g e k)
+act-view mode frame n g (Adds flaw damaged overlong c) e k = added-view mode frame flaw damaged overlong n c g e k
+act-view mode frame n g (Judges flaw damaged overlong) e k =
+    ended-view mode frame flaw (heardOf mode damaged overlong g n) g _ e (verdict-view mode damaged overlong n g e k)
 
 -- a move asks for content only in a group
 move-held : (mode : ℕ) (p : Phase) (y : Symbol) (c : List ℕ)
@@ -313,19 +328,20 @@ move-held mode (InGroup flaw damaged overlong) y c = refl
 
 -- a byte does to any numbers and 128 lent bytes what it does to the line that they stand for
 pub step-view : (l : LineState) (g : List ℕ) (b : ℕ) → length g ≡ 128
-    → StepView (l .mode) (stepped l g b) (step (l .mode) (lineOf l g) b)
+    → StepView (l .mode) (frameAt (l .frame) (symbolOf b)) (stepped l g b) (step (l .mode) (lineOf l g) b)
 unfolding stepped step lineOf
 step-view l g b e =
     rw (move-held (l .mode) (phaseOf l) (symbolOf b) (take (heldIn l) g))
-    (act-view (l .mode) (heldIn l) g (move (phaseOf l) (symbolOf b)) e (held-most l))
+    (act-view (l .mode) (frameAt (l .frame) (symbolOf b)) (heldIn l) g (move (phaseOf l) (symbolOf b)) e (held-most l))
 
 -- ---- A stretch of bytes
 
 -- what bytes do to the numbers and the lent bytes, n bytes having been taken before, is what they do, up to the first
--- that gives an answer, to the line
-pub record FedView (mode n : ℕ) (f : FedTo) (s : State) (bs : List ℕ) : Type 0 where
+-- that gives an answer, to the line and to its frame number
+pub record FedView (mode frame n : ℕ) (f : FedTo) (s : State) (bs : List ℕ) : Type 0 where
   pub long : length (f .content) ≡ 128
   pub same-mode : f .result .line .mode ≡ mode
+  pub frame-is : f .result .line .frame ≡ frameAfter frame (take (untilAnswer mode s bs) bs)
   pub count-is : f .result .count ≡ n + untilAnswer mode s bs
   pub line-is : lineOf (f .result .line) (f .content) ≡ after mode s (take (untilAnswer mode s bs) bs)
   pub answers-are : listed (heardAnswer (f .result .heard) (f .content))
@@ -333,20 +349,22 @@ pub record FedView (mode n : ℕ) (f : FedTo) (s : State) (bs : List ℕ) : Type
   pub inside : FieldsInside (f .result .heard)
 
 -- a byte that gives an answer ends the stretch
-fed-here : (mode n : ℕ) (x : After) (s : State) (b : ℕ) (bs : List ℕ) (a : LineAnswer) → StepView mode x (step mode s b)
+fed-here : (mode frame n : ℕ) (x : After) (s : State) (b : ℕ) (bs : List ℕ) (a : LineAnswer)
+    → StepView mode (frameAt frame (symbolOf b)) x (step mode s b)
     → heardAnswer (x .result .heard) (x .content) ≡ some a
-    → FedView mode n
+    → FedView mode frame n
     (record {
       result = record { line = x .result .line; count = n + 1; heard = x .result .heard };
       content = x .content;
     })
     s (b ∷ bs)
-unfolding untilAnswer after answers
-fed-here mode n x s b bs a v t =
+unfolding untilAnswer after answers frameAfter
+fed-here mode frame n x s b bs a v t =
     let q : step mode s b .answer ≡ some a = sym (v .answer-is) ∙ t in
     record {
       long = v .long;
       same-mode = v .same-mode;
+      frame-is = rw q (v .frame-is);
       count-is = rw q;
       line-is = rw q (v .line-is);
       answers-are = rw (q, q, t);
@@ -354,35 +372,46 @@ fed-here mode n x s b bs a v t =
     }
 
 -- a byte, and the bytes behind it
-fed-more : (mode n : ℕ) (l : LineState) (h : Heard) (g : List ℕ) (s : State) (b : ℕ) (bs : List ℕ) (more : FedTo)
-    → StepView mode (record { result = record { line = l; heard = h }; content = g }) (step mode s b)
-    → FedView mode (n + 1) more (step mode s b .state) bs → FedView mode n (fedOn h l (n + 1) g more) s (b ∷ bs)
-unfolding untilAnswer after answers heardAnswer
-fed-more mode n l Nothing g s b bs more v m =
+fed-more : (mode frame n : ℕ) (l : LineState) (h : Heard) (g : List ℕ) (s : State) (b : ℕ) (bs : List ℕ) (more : FedTo)
+    → StepView mode (frameAt frame (symbolOf b)) (record { result = record { line = l; heard = h }; content = g })
+    (step mode s b)
+    → FedView mode (frameAt frame (symbolOf b)) (n + 1) more (step mode s b .state) bs
+    → FedView mode frame n (fedOn h l (n + 1) g more) s (b ∷ bs)
+unfolding untilAnswer after answers heardAnswer frameAfter
+fed-more mode frame n l Nothing g s b bs more v m =
     let q : step mode s b .answer ≡ none = sym (v .answer-is) in
     record {
       long = m .long;
       same-mode = m .same-mode;
+      frame-is = rw q (m .frame-is);
       count-is = rw q (omega (arith, m .count-is));
       line-is = rw q (m .line-is);
       answers-are = rw (q, q) (m .answers-are);
       inside = m .inside;
     }
-fed-more mode n l (Accepted fields) g s b bs more v m = fed-here mode n _ s b bs _ v refl
-fed-more mode n l (Told notice) g s b bs more v m = fed-here mode n _ s b bs _ v refl
+fed-more mode frame n l (Accepted fields) g s b bs more v m = fed-here mode frame n _ s b bs _ v refl
+fed-more mode frame n l (Told notice) g s b bs more v m = fed-here mode frame n _ s b bs _ v refl
 
 -- the bytes of a stretch, up to the first that gives an answer, do what they do to the line
 pub fed-view : (n : ℕ) (l : LineState) (g bs : List ℕ) → length g ≡ 128
-    → FedView (l .mode) n (fed n l g bs) (lineOf l g) bs
-unfolding fed untilAnswer after answers heardAnswer
+    → FedView (l .mode) (l .frame) n (fed n l g bs) (lineOf l g) bs
+unfolding fed untilAnswer after answers heardAnswer frameAfter
 fed-view n l g [] e =
-    record { long = e; same-mode = refl; count-is = omega arith; line-is = refl; answers-are = refl; inside = tt }
+    record {
+      long = e;
+      same-mode = refl;
+      frame-is = refl;
+      count-is = omega arith;
+      line-is = refl;
+      answers-are = refl;
+      inside = tt;
+    }
 fed-view n l g (b ∷ bs) e =
     let a = stepped l g b in
     let v = step-view l g b e in
     let m = fed-view (n + 1) (a .result .line) (a .content) bs (v .long) in
-    fed-more (l .mode) n (a .result .line) (a .result .heard) (a .content) (lineOf l g) b bs _ v
-    (rw (v .same-mode, v .line-is) at m)
+    fed-more (l .mode) (l .frame) n (a .result .line) (a .result .heard) (a .content) (lineOf l g) b bs _ v
+    (rw (v .same-mode, v .frame-is, v .line-is) at m)
 
 -- ---- How many bytes a stretch takes
 

@@ -3,6 +3,7 @@
 // What a line keeps is a small struct of numbers, which goes in and comes back by value, and beside it the 128 bytes of
 // its group's content, which the caller lends. Only `feed` takes bytes: those that give no answer in a row where it can,
 // and every other one by `step`.
+mod frames;
 mod rows;
 mod rules;
 mod state;
@@ -25,6 +26,7 @@ pub struct LineState {
     pub damaged: u8,
     pub overlong: u8,
     pub length: u16,
+    pub frame: u16,
 }
 
 // What a line tells of its frames and groups, an accepted group apart. A refused group comes with the place in its content
@@ -66,7 +68,7 @@ pub enum Opening {
     ModeUnknown,
 }
 
-// A line of this mode, outside of every frame.
+// A line of this mode, outside of every frame, of which none came yet.
 pub fn open(mode: u8) -> Opening
     ensures { λ r. ⌜ r ≡ openingOf mode ⌝ }
 {
@@ -78,6 +80,7 @@ pub fn open(mode: u8) -> Opening
             damaged: 0,
             overlong: 0,
             length: 0,
+            frame: 0,
         });
     }
     Opening::ModeUnknown
@@ -96,12 +99,14 @@ pub fn feed(line: LineState, content: &mut [u8; 128], bytes: &[u8]) -> Taken
         i += row.count;
         if i == bytes.len() {
             return Taken {
-                line: state::state_of(at.mode, phase, held),
+                line: state::state_of(at.mode, at.frame, phase, held),
                 count: i,
                 heard: Heard::Nothing,
             };
         }
-        let stepped = step::step(at.mode, phase, held, content, bytes[i]);
+        let byte = bytes[i];
+        let frame = frames::after(at.frame, byte);
+        let stepped = step::step(at.mode, frame, phase, held, content, byte);
         let next = stepped.line;
         let heard = stepped.heard;
         i += 1;

@@ -36,7 +36,7 @@ pub struct Run {
     pub count: usize,
 }
 
-// Takes bytes outside of frames, up to and with an STX.
+// Takes bytes outside of frames, up to an STX, which is left to `step`: it begins a frame, and so no row has one.
 fn pass_outside(bytes: &[u8]) -> Passed
     ensures { λ r. ⌜ Passes Phase.Outside (now (bytes .entry)) r ⌝ }
 {
@@ -44,8 +44,8 @@ fn pass_outside(bytes: &[u8]) -> Passed
     while i < bytes.len() {
         if bytes[i] == characters::wire_byte(characters::STX) {
             return Passed {
-                phase: Phase::Frame(false),
-                count: i + 1,
+                phase: Phase::Outside,
+                count: i,
             };
         }
         i += 1;

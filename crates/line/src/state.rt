@@ -33,8 +33,8 @@ pub(crate) fn held_in(line: LineState) -> u16
 }
 
 // The numbers of a line in a phase, with so many characters of content; only a group has content.
-pub(crate) fn state_of(mode: u8, phase: Phase, length: u16) -> LineState
-    ensures { λ r. ⌜ r ≡ stateOf mode phase length ⌝ }
+pub(crate) fn state_of(mode: u8, frame: u16, phase: Phase, length: u16) -> LineState
+    ensures { λ r. ⌜ r ≡ stateOf mode frame phase length ⌝ }
 {
     match phase {
         Phase::Outside => LineState {
@@ -44,6 +44,7 @@ pub(crate) fn state_of(mode: u8, phase: Phase, length: u16) -> LineState
             damaged: 0,
             overlong: 0,
             length: 0,
+            frame,
         },
         Phase::Frame(flaw) => LineState {
             mode,
@@ -52,6 +53,7 @@ pub(crate) fn state_of(mode: u8, phase: Phase, length: u16) -> LineState
             damaged: 0,
             overlong: 0,
             length: 0,
+            frame,
         },
         Phase::Group(flaw, damaged, overlong) => LineState {
             mode,
@@ -60,6 +62,7 @@ pub(crate) fn state_of(mode: u8, phase: Phase, length: u16) -> LineState
             damaged: damaged as u8,
             overlong: overlong as u8,
             length,
+            frame,
         },
     }
 }

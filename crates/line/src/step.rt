@@ -55,20 +55,20 @@ fn judged(mode: u8, damaged: bool, overlong: bool, content: &[u8], length: usize
 }
 
 // The frame goes on behind a group; one that is not accepted leaves it flawed.
-fn ended(mode: u8, flaw: bool, heard: Heard) -> Reaction
-    ensures { λ r. ⌜ r ≡ endedOf mode flaw heard ⌝ }
+fn ended(mode: u8, frame: u16, flaw: bool, heard: Heard) -> Reaction
+    ensures { λ r. ⌜ r ≡ endedOf mode frame flaw heard ⌝ }
 {
     match heard {
         Heard::Accepted(fields) => Reaction {
-            line: state::state_of(mode, Phase::Frame(flaw), 0),
+            line: state::state_of(mode, frame, Phase::Frame(flaw), 0),
             heard: Heard::Accepted(fields),
         },
         Heard::Told(why) => Reaction {
-            line: state::state_of(mode, Phase::Frame(true), 0),
+            line: state::state_of(mode, frame, Phase::Frame(true), 0),
             heard: Heard::Told(why),
         },
         Heard::Nothing => Reaction {
-            line: state::state_of(mode, Phase::Frame(true), 0),
+            line: state::state_of(mode, frame, Phase::Frame(true), 0),
             heard: Heard::Nothing,
         },
     }
@@ -86,36 +86,39 @@ fn move_of(phase: Phase, byte: u8) -> Move
     rules::moved(phase, rules::symbol_of(byte))
 }
 
-// What a byte does to a line of this mode in this phase, whose group holds so many characters.
+// What a byte does to a line of this mode in this phase, whose group holds so many characters; the number of its frame is the
+// one after the byte.
 pub(crate) fn step(
     mode: u8,
+    frame: u16,
     phase: Phase,
     length: u16,
     content: &mut [u8; 128],
     byte: u8,
 ) -> Reaction
-    ensures { λ r. ⌜ Stepped (acted mode length (now (content .entry)) (move phase (symbolOf byte))) r (now (content .exit)) ⌝ }
+    ensures { λ r. ⌜ Stepped (acted mode frame length (now (content .entry)) (move phase (symbolOf byte))) r (now (content .exit)) ⌝ }
 {
     let does = move_of(phase, byte);
     match does {
-        Move::Quiet(phase) => quiet(mode, phase, length),
-        Move::Opens(flaw) => quiet(mode, Phase::Group(flaw, false, false), 0),
+        Move::Quiet(phase) => quiet(mode, frame, phase, length),
+        Move::Opens(flaw) => quiet(mode, frame, Phase::Group(flaw, false, false), 0),
         Move::Says(phase, notice) => Reaction {
-            line: state::state_of(mode, phase, 0),
+            line: state::state_of(mode, frame, phase, 0),
             heard: Heard::Told(notice),
         },
         Move::Adds(flaw, damaged, overlong, code) => {
             if length < 128 {
                 let at = length as usize;
                 content[at] = code;
-                quiet(mode, Phase::Group(flaw, damaged, overlong), length + 1)
+                quiet(mode, frame, Phase::Group(flaw, damaged, overlong), length + 1)
             } else {
-                quiet(mode, Phase::Group(flaw, damaged, true), length)
+                quiet(mode, frame, Phase::Group(flaw, damaged, true), length)
             }
         }
         Move::Judges(flaw, damaged, overlong) => {
             ended(
                 mode,
+                frame,
                 flaw,
                 judged(mode, damaged, overlong, content, length as usize),
             )
@@ -123,11 +126,11 @@ pub(crate) fn step(
     }
 }
 
-fn quiet(mode: u8, phase: Phase, length: u16) -> Reaction
-    ensures { λ r. ⌜ r ≡ quietOf mode phase length ⌝ }
+fn quiet(mode: u8, frame: u16, phase: Phase, length: u16) -> Reaction
+    ensures { λ r. ⌜ r ≡ quietOf mode frame phase length ⌝ }
 {
     Reaction {
-        line: state::state_of(mode, phase, length),
+        line: state::state_of(mode, frame, phase, length),
         heard: Heard::Nothing,
     }
 }

@@ -59,25 +59,29 @@ returns c =
     (at-take-row .take-row .ensures)
     ∙ feed-over _ _ (start .args .bytes .now) _ (omega arith)))
 
-shared-slice-read-step : tie.Need-shared-slice-read-step Inv-loop μ-loop
-shared-slice-read-step c = omega (arith, most (c .before .before .before .before))
+shared-slice-read-byte : tie.Need-shared-slice-read-byte Inv-loop μ-loop
+shared-slice-read-byte c = omega (arith, most (c .before .before .before))
+
+after-requires : tie.Need-after-requires Inv-loop μ-loop
+after-requires c κs = search needs
 
 step-requires : tie.Need-step-requires Inv-loop μ-loop
 step-requires c κs = search needs
 
 add-i-2 : tie.Need-add-i-2 Inv-loop μ-loop
-add-i-2 c = omega (arith, most (c .before .before .before .before .before .before))
+add-i-2 c = omega (arith, most (c .before .before .before .before .before .before .before))
 
 enum-told : tie.Need-enum-told Inv-loop μ-loop
 enum-told c = search needs
 
 loop-less : tie.Need-loop-less Inv-loop μ-loop
-loop-less c = omega (arith, most (c .before .before .before .before .before .before .before .before))
+loop-less c = omega (arith, most (c .before .before .before .before .before .before .before .before .before))
 
 loop-again : tie.Need-loop-again Inv-loop μ-loop
 loop-again c =
     let at-step = c .before .before .before in
-    let at-take-row = at-step .before .before .before .before .before in
+    let at-after = at-step .before .before in
+    let at-take-row = at-after .before .before .before .before in
     let at-loop-test = at-take-row .before .before .before in
     let at-loop = at-loop-test .before in
     let start = at-loop .before .before in
@@ -88,8 +92,8 @@ loop-again c =
           ∙ run-on (l .at) (l .content) (start .args .bytes .now) (l .i) (at-loop-test .loop-test .taken) _ _
           (at-take-row .take-row .ensures)
           ∙ feed-on _ _ (start .args .bytes .now) _ (omega arith) (at-step .step .result) _
-          (stepped-as (l .at .mode) (at-take-row .take-row .result .phase) (at-take-row .take-row .result .held) _ _
-          (at-take-row .take-row .ensures .held-most) (at-step .step .ensures)) (c .enum-told .given .1),
+          (stepped-as (l .at .mode) (l .at .frame) (at-take-row .take-row .result .phase) (at-take-row .take-row .result .held) _ _
+          (at-take-row .take-row .ensures .held-most) (at-after .after .ensures) (at-step .step .ensures)) (c .enum-told .given .1),
     )
 
 enum-known-heard : tie.Need-enum-known-heard Inv-loop μ-loop
@@ -98,7 +102,8 @@ enum-known-heard c = search needs
 returns-2 : tie.Need-returns-2 Inv-loop μ-loop
 returns-2 c =
     let at-step = c .before .before .before .before in
-    let at-take-row = at-step .before .before .before .before .before in
+    let at-after = at-step .before .before in
+    let at-take-row = at-after .before .before .before .before in
     let at-loop-test = at-take-row .before .before .before in
     let at-loop = at-loop-test .before in
     let start = at-loop .before .before in
@@ -108,8 +113,8 @@ returns-2 c =
     ∙ run-on (l .at) (l .content) (start .args .bytes .now) (l .i) (at-loop-test .loop-test .taken) _ _
     (at-take-row .take-row .ensures)
     ∙ feed-accepted _ _ (start .args .bytes .now) _ (omega arith) (at-step .step .result) _
-    (stepped-as (l .at .mode) (at-take-row .take-row .result .phase) (at-take-row .take-row .result .held) _ _
-    (at-take-row .take-row .ensures .held-most) (at-step .step .ensures)) _ (c .before .heard .given .1))
+    (stepped-as (l .at .mode) (l .at .frame) (at-take-row .take-row .result .phase) (at-take-row .take-row .result .held) _ _
+    (at-take-row .take-row .ensures .held-most) (at-after .after .ensures) (at-step .step .ensures)) _ (c .before .heard .given .1))
 
 enum-known-heard-2 : tie.Need-enum-known-heard-2 Inv-loop μ-loop
 enum-known-heard-2 c = search needs
@@ -117,7 +122,8 @@ enum-known-heard-2 c = search needs
 returns-3 : tie.Need-returns-3 Inv-loop μ-loop
 returns-3 c =
     let at-step = c .before .before .before .before in
-    let at-take-row = at-step .before .before .before .before .before in
+    let at-after = at-step .before .before in
+    let at-take-row = at-after .before .before .before .before in
     let at-loop-test = at-take-row .before .before .before in
     let at-loop = at-loop-test .before in
     let start = at-loop .before .before in
@@ -127,8 +133,8 @@ returns-3 c =
     ∙ run-on (l .at) (l .content) (start .args .bytes .now) (l .i) (at-loop-test .loop-test .taken) _ _
     (at-take-row .take-row .ensures)
     ∙ feed-told _ _ (start .args .bytes .now) _ (omega arith) (at-step .step .result) _
-    (stepped-as (l .at .mode) (at-take-row .take-row .result .phase) (at-take-row .take-row .result .held) _ _
-    (at-take-row .take-row .ensures .held-most) (at-step .step .ensures)) _ (c .before .heard2 .given .1))
+    (stepped-as (l .at .mode) (l .at .frame) (at-take-row .take-row .result .phase) (at-take-row .take-row .result .held) _ _
+    (at-take-row .take-row .ensures .held-most) (at-after .after .ensures) (at-step .step .ensures)) _ (c .before .heard2 .given .1))
 
 returns-4 : tie.Need-returns-4 Inv-loop μ-loop
 returns-4 c =
@@ -151,7 +157,8 @@ feed-spec =
     add-i
     state-of-requires
     returns
-    shared-slice-read-step
+    shared-slice-read-byte
+    after-requires
     step-requires
     add-i-2
     enum-told

@@ -14,15 +14,17 @@ use Rattle.groups.specs.Writing.{writing}
 use Rattle.groups.specs.declared.Mode.{Mode}
 use Rattle.line.specs.Symbols.{symbolOf}
 use Rattle.line.specs.Rules.{frameEnd, move}
-use Rattle.line.specs.Lines.{LineAnswer, State, Step, does, step, after, andThen, answers, outside, inFrame, onward, untilAnswer}
+use Rattle.line.specs.Lines.{LineAnswer, State, Step, does, step, after, andThen, outside, inFrame, onward, untilAnswer}
 use Rattle.line.specs.Between.{noControl, isDamaged, anyDamaged, withText, textOf, groupAnswer}
-use Rattle.line.specs.Entries.{Entry, accepted, only, entryList}
-use Rattle.line.specs.Numbers.{shown, shownIf}
-use Rattle.line.specs.ByBytes.{is, openSince, openFrame, openGroup, flaws, flawedBehind, isFlawed, dueInFrame, answerDue, answersDue, isAnswered, upToAnswer}
+use Rattle.line.specs.Entries.{Entry, accepted, only, Framed, framed, framedIf, entryList}
+use Rattle.line.specs.FrameNumbers.{frameAt, frameAfter, begun, framedAfter, framedAnswers}
+use Rattle.line.specs.Numbers.{shown, shownIf, shownFramed}
+use Rattle.line.specs.ByBytes.{is, openSince, openFrame, openGroup, flaws, flawedBehind, isFlawed, dueInFrame, answerDue, frameNumber, entryDue, answersDue, isAnswered, upToAnswer}
 use Rattle.line.specs.Laws.Bytes.{step-at}
 use Rattle.line.specs.Laws.Groups.{keeps, added-keeps, verdict-is}
-use Rattle.line.specs.Laws.Written.{written-sent}
+use Rattle.line.specs.Laws.Written.{written-sent, written-no-stx}
 use Rattle.line.specs.Laws.LookingBack.{Tests, tests, more, open-more, ends-in-group}
+use Rattle.line.specs.Laws.FrameNumbers.{number-more, after-counted, number-opened, after-none, one-number}
 use Rattle.line.specs.Laws.GroupsByBytes.{group-shown, refused-number}
 use Rattle.line.specs.declared.rules.Symbol.{Symbol}
 use Rattle.line.specs.declared.rules.Symbol.the-variants.{Stx, Etx, Eot, Lf, Cr, Damaged, Text}
@@ -70,9 +72,9 @@ located m none = outside
 located m (some since) = insideOf (isFlawed m since) (openGroup since)
 
 -- a frame that has just begun
-begun : (m : Mode) → located m (some []) ≡ inFrame false
+frame-begun : (m : Mode) → located m (some []) ≡ inFrame false
 unfolding openSince flawedBehind
-begun m = refl
+frame-begun m = refl
 
 -- what a byte does, with the number of its answer
 record Told : Type 0 where
@@ -90,7 +92,7 @@ Leads mode m o b y =
 
 -- outside
 from-outside : (mode : ℕ) (m : Mode) (b : ℕ) (y : Symbol) → Tests (λ k. is k b) y → Leads mode m none b y
-from-outside mode m b Stx t = rw (t .0, begun m)
+from-outside mode m b Stx t = rw (t .0, frame-begun m)
 from-outside mode m b Etx t = rw (t .0, t .1)
 from-outside mode m b Eot t = rw (t .0, t .1, t .2)
 from-outside mode m b Lf t = rw (t .0, t .1, t .2)
@@ -114,7 +116,7 @@ located-more m since b = rw (flawed-more m [] since b, open-more (is LF) (is CR)
 from-frame : (mode : ℕ) (m : Mode) (b : ℕ) (since : List ℕ) → openGroup since ≡ none → (y : Symbol)
     → Tests (λ k. is k b) y → Leads mode m (some since) b y
 unfolding pick
-from-frame mode m b since n Stx t = rw (n, t .0, begun m)
+from-frame mode m b since n Stx t = rw (n, t .0, frame-begun m)
 from-frame mode m b since n Etx t = rw (n, t .0, t .1, end-is (isFlawed m since))
 from-frame mode m b since n Eot t = rw (n, t .0, t .1, t .2)
 from-frame mode m b since n Lf t =
@@ -141,7 +143,7 @@ from-group : (mode : ℕ) (m : Mode) → modeOf mode ≡ some m → (b : ℕ) (s
     → openGroup since ≡ some inner → T (noControl inner) → (y : Symbol) → symbolOf b ≡ y → Tests (λ k. is k b) y
     → Leads mode m (some since) b y
 unfolding pick
-from-group mode m k b since inner n i Stx e t = rw (n, t .0, begun m)
+from-group mode m k b since inner n i Stx e t = rw (n, t .0, frame-begun m)
 from-group mode m k b since inner n i Etx e t = rw (n, t .0, t .1)
 from-group mode m k b since inner n i Eot e t = rw (n, t .0, t .1, t .2)
 from-group mode m k b since inner n i Lf e t =
@@ -234,34 +236,45 @@ module _ (mode : ℕ) (m : Mode) (k : modeOf mode ≡ some m) where
       → shownIf (step mode (after mode outside before) b .answer) ≡ answerDue m before b
   answer-by-bytes before b = rw (after-by-bytes before) (step-answer before b)
 
-  -- and so with all answers, one after the other
-  answers-located : (p bs : List ℕ) → map shown (answers mode (located m (openFrame p)) bs) ≡ answersDue m p bs
-  unfolding answers answersDue
+  -- and so with all answers, one after the other, with their numbers
+  answers-located : (p bs : List ℕ)
+      → map shownFramed (framedAnswers mode (framed (frameNumber p) (located m (openFrame p))) bs) ≡ answersDue m p bs
+  unfolding framedAnswers answersDue
   answers-located p [] = refl
   answers-located p (b ∷ bs) =
-      first (step mode (located m (openFrame p)) b .answer) (answers mode (step mode (located m (openFrame p)) b .state) bs)
-      ∙ rw (step-answer p b, step-state p b) (ap (λ (l : List Entry). entryList (answerDue m p b) ++ l) (answers-located (p ++ b ∷ []) bs))
+      first (frameAt (frameNumber p) (symbolOf b)) (step mode (located m (openFrame p)) b .answer)
+      (framedAnswers mode (framed (frameAt (frameNumber p) (symbolOf b)) (step mode (located m (openFrame p)) b .state)) bs)
+      ∙ rw (number-more p b, step-answer p b, step-state p b)
+      (ap (λ (l : List (Framed Entry)). entryList (entryDue m p b) ++ l) (answers-located (p ++ b ∷ []) bs))
     where
-      first : (o : Option LineAnswer) (more : List LineAnswer)
-          → map shown (andThen o more) ≡ entryList (shownIf o) ++ map shown more
-      first none more = refl
-      first (some a) more = refl
+      first : (n : ℕ) (o : Option LineAnswer) (more : List (Framed LineAnswer))
+          → map shownFramed (andThen (framedIf n o) more) ≡ entryList (framedIf n (shownIf o)) ++ map shownFramed more
+      first n none more = refl
+      first n (some a) more = refl
+
+  -- the line with its number, after bytes
+  framed-by-bytes : (before : List ℕ)
+      → framedAfter mode begun before ≡ framed (frameNumber before) (located m (openFrame before))
+  framed-by-bytes before =
+      let counted : frameAfter 0 before ≡ frameNumber before = rw number-opened at (after-counted [] before) in
+      rw (counted, after-by-bytes before)
 
   pub answers-behind : (before bs : List ℕ)
-      → map shown (answers mode (after mode outside before) bs) ≡ answersDue m before bs
-  answers-behind before bs = rw (after-by-bytes before) (answers-located before bs)
+      → map shownFramed (framedAnswers mode (framedAfter mode begun before) bs) ≡ answersDue m before bs
+  answers-behind before bs = rw (framed-by-bytes before) (answers-located before bs)
 
-  pub all-by-bytes : (bs : List ℕ) → map shown (answers mode outside bs) ≡ answersDue m [] bs
-  unfolding openSince
-  all-by-bytes bs = answers-located [] bs
+  pub all-by-bytes : (bs : List ℕ) → map shownFramed (framedAnswers mode begun bs) ≡ answersDue m [] bs
+  all-by-bytes bs = rw (after-none mode begun) at (answers-behind [] bs)
 
   -- what the writer makes, sent in an open frame with no group open
   pub written-by-bytes : (g : Group) (room : ℕ) (w : List ℕ) → writing mode g room ≡ given w → (before since : List ℕ)
-      → openFrame before ≡ some since → openGroup since ≡ none → answersDue m before w ≡ accepted g ∷ []
+      → openFrame before ≡ some since → openGroup since ≡ none
+      → answersDue m before w ≡ framed (frameNumber before) (accepted g) ∷ []
   written-by-bytes g room w e before since f n =
       let at : located m (openFrame before) ≡ inFrame (isFlawed m since) = rw (f, n) in
       let sent = written-sent mode (isFlawed m since) g room w e .0 in
-      sym (answers-located before w) ∙ rw (at, sent)
+      sym (answers-located before w)
+      ∙ rw (at, one-number mode (framed (frameNumber before) (inFrame (isFlawed m since))) w (written-no-stx mode g room w e), sent)
 
   -- how many bytes there are up to the first answer
   until-located : (p bs : List ℕ) → untilAnswer mode (located m (openFrame p)) bs ≡ upToAnswer m p bs

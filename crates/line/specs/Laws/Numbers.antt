@@ -107,7 +107,7 @@ unfolding openingOf pick
 opening-numbered mode = go (isMode mode)
   where
     go : (known : Bool)
-        → numberOfOpening (pick known (Opened (stateOf mode Outside 0)) ModeUnknown) ≡ pick known 0 19
+        → numberOfOpening (pick known (Opened (stateOf mode 0 Outside 0)) ModeUnknown) ≡ pick known 0 19
     go true = refl
     go false = refl
 
@@ -135,14 +135,14 @@ heard-place (Told notice) content = refl
 -- ---- A line that is opened
 
 pub opened-outside : (mode : ℕ) (l : LineState) (content : List ℕ) → openingOf mode ≡ Opened l
-    → (lineOf l content ≡ outside) × (l .mode ≡ mode)
+    → (lineOf l content ≡ outside) × (l .mode ≡ mode) × (l .frame ≡ 0)
 opened-outside mode l content q = go (isMode mode) refl
   where
-    go : (known : Bool) → isMode mode ≡ known → (lineOf l content ≡ outside) × (l .mode ≡ mode)
+    go : (known : Bool) → isMode mode ≡ known → (lineOf l content ≡ outside) × (l .mode ≡ mode) × (l .frame ≡ 0)
     go true e =
         let same = sym (opening-known mode e) ∙ q in
-        let z : l ≡ stateOf mode Outside 0 = cc in
-        rw z (opened-view mode content, refl)
+        let z : l ≡ stateOf mode 0 Outside 0 = cc in
+        rw z (opened-view mode 0 content, refl, refl)
     go false e =
         let same = sym (opening-unknown mode e) ∙ q in
         absurd (let z : _≡_ {A = ℕ} 0 1 = cc in omega arith)

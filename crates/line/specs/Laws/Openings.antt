@@ -9,7 +9,7 @@ use Rattle.line.specs.declared.Opening.the-variants.{Opened, ModeUnknown
 use Rattle.line.specs.declared.rules.Phase.the-variants.{Outside}
 
 -- an opening in a known mode gives a line that is outside
-pub opening-known : (mode : ℕ) → isMode mode ≡ true → openingOf mode ≡ Opened (stateOf mode Outside 0)
+pub opening-known : (mode : ℕ) → isMode mode ≡ true → openingOf mode ≡ Opened (stateOf mode 0 Outside 0)
 unfolding openingOf pick
 opening-known mode e = rw e
 

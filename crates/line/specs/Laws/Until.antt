@@ -1,13 +1,11 @@
 -- Stretches of bytes: no bytes, and those up to the first that gives an answer.
 use mathlib.Core.Path.{_≡_, refl}
 use mathlib.Core.Option.{Option, none, some}
-use mathlib.Core.List.{List, [], _∷_, map}
+use mathlib.Core.List.{List, [], _∷_}
 use Prim.Native.Nat.{ℕ, _≤_, _<_}
 use native.Mathlib.Omega.{arith}
 use lib.ListN.{length, take}
 use Rattle.line.specs.Lines.{LineAnswer, State, step, after, answers, onward, untilAnswer}
-use Rattle.line.specs.Entries.{firstEntry}
-use Rattle.line.specs.Numbers.{shown}
 
 -- no bytes leave the line as it is
 pub after-none : (mode : ℕ) (s : State) → after mode s [] ≡ s
@@ -49,19 +47,3 @@ unfolding untilAnswer
 until-stops mode s [] h = absurd (omega arith)
 until-stops mode s (b ∷ bs) h =
     stops-here mode s b bs _ (step mode s b .answer) refl (until-stops mode (step mode s b .state) bs) h
-
--- the first answer of a stretch up to the first answer is the first of the whole
-first-here : (mode : ℕ) (s : State) (b : ℕ) (bs : List ℕ) (k : ℕ) (o : Option LineAnswer) → step mode s b .answer ≡ o
-    → firstEntry (map shown (answers mode (step mode s b .state) (take k bs)))
-    ≡ firstEntry (map shown (answers mode (step mode s b .state) bs))
-    → firstEntry (map shown (answers mode s (take (onward o k) (b ∷ bs)))) ≡ firstEntry (map shown (answers mode s (b ∷ bs)))
-unfolding answers
-first-here mode s b bs k none e h = rw e h
-first-here mode s b bs k (some a) e h = rw e
-
-pub until-first : (mode : ℕ) (s : State) (bs : List ℕ)
-    → firstEntry (map shown (answers mode s (take (untilAnswer mode s bs) bs))) ≡ firstEntry (map shown (answers mode s bs))
-unfolding untilAnswer
-until-first mode s [] = refl
-until-first mode s (b ∷ bs) =
-    first-here mode s b bs _ (step mode s b .answer) refl (until-first mode (step mode s b .state) bs)

@@ -1,8 +1,8 @@
 -- What the writer makes is answered by exactly that group, where it is sent in a frame.
 use mathlib.Core.Path.{_≡_, refl, sym, ap, _∙_, subst}
 use mathlib.Core.Bool.{Bool, false, not, or-false}
-use mathlib.Core.List.{List, [], _∷_, map}
-use Prim.Native.Nat.{ℕ, _<_}
+use mathlib.Core.List.{List, [], _∷_, _++_, map}
+use Prim.Native.Nat.{ℕ, suc, _<_}
 use native.Mathlib.Omega.{arith}
 use lib.Dec.{T, eqb, T-not}
 use lib.ListN.{length}
@@ -19,9 +19,13 @@ use Rattle.groups.specs.Laws.ByNumber.{judged-short, judged-plain}
 use Rattle.groups.specs.Promises.{written-reads-back}
 use Rattle.line.specs.Symbols.{soundSymbol, symbolOf}
 use Rattle.line.specs.Lines.{LineAnswer, after, answers, inFrame}
-use Rattle.line.specs.Between.{noControl, anyDamaged, textOf, groupAnswer}
+use Rattle.line.specs.Between.{isInner, noControl, anyDamaged, textOf, groupAnswer}
+use Rattle.line.specs.ByBytes.{is, countOf}
 use Rattle.line.specs.Laws.Groups.{group-answered, group-ends}
-use Rattle.line.specs.declared.rules.Symbol.the-variants.{Lf, Cr, Text}
+use Rattle.line.specs.Laws.LookingBack.{isAs, tests}
+use Rattle.line.specs.Laws.FrameNumbers.{count-append}
+use Rattle.line.specs.declared.rules.Symbol.{Symbol}
+use Rattle.line.specs.declared.rules.Symbol.the-variants.{Stx, Etx, Eot, Lf, Cr, Damaged, Text}
 
 -- ---- Wire bytes and their symbols
 
@@ -115,3 +119,39 @@ pub written-sent : (mode : ℕ) (flaw : Bool) (g : Group) (room : ℕ) (w : List
 written-sent mode flaw g room w e =
     let (j, on, sound) = written-reads-back mode g room w e in
     subst (AnsweredBy mode flaw g) (sym on) (accepted-sent mode flaw (offTheWire w) g j)
+
+-- ---- It has no STX
+
+-- as what stands in a group has none
+inner-no-stx : (bs : List ℕ) → T (noControl bs) → countOf (is STX) bs ≡ 0
+unfolding pick
+inner-no-stx [] t = refl
+inner-no-stx (b ∷ bs) t =
+    let (inner, more) = and-yes (isInner (symbolOf b)) (noControl bs) t in
+    rw (tests b .0) (go (symbolOf b) inner (inner-no-stx bs more))
+  where
+    go : (y : Symbol) → T (isInner y) → countOf (is STX) bs ≡ 0
+        → pick (isAs STX y) (suc (countOf (is STX) bs)) (countOf (is STX) bs) ≡ 0
+    go Stx u e = absurd u
+    go Etx u e = absurd u
+    go Eot u e = absurd u
+    go Lf u e = absurd u
+    go Cr u e = absurd u
+    go Damaged u e = e
+    go (Text c) u e = e
+
+-- nor has an accepted content on the wire
+sent-no-stx : (mode : ℕ) (c : List ℕ) (g : Group) → judging mode c ≡ given g → countOf (is STX) (onTheWire c) ≡ 0
+unfolding pick
+sent-no-stx mode c g e =
+    let bs = map wireByteOf c in
+    let inner = inner-no-stx bs (clear c (judged-plain mode c g e) .none-controls) in
+    let first : is STX (wireByteOf LF) ≡ false = tests (wireByteOf LF) .0 ∙ ap (isAs STX) lf-symbol in
+    let last : is STX (wireByteOf CR) ≡ false = tests (wireByteOf CR) .0 ∙ ap (isAs STX) cr-symbol in
+    rw (on-is c, first, count-append (is STX) bs (wireByteOf CR ∷ []), inner, last)
+
+pub written-no-stx : (mode : ℕ) (g : Group) (room : ℕ) (w : List ℕ) → writing mode g room ≡ given w
+    → countOf (is STX) w ≡ 0
+written-no-stx mode g room w e =
+    let (j, on, sound) = written-reads-back mode g room w e in
+    subst (λ (l : List ℕ). countOf (is STX) l ≡ 0) (sym on) (sent-no-stx mode (offTheWire w) g j)

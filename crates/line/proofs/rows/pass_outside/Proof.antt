@@ -4,9 +4,9 @@ use Prim.Native.Nat.{_-_}
 use lib.ListN.{getD, length}
 use native.Mathlib.Omega.{arith}
 use Rattle.line.specs.Runs.{Passes}
-use Rattle.line.specs.declared.rules.Phase.the-variants.{Outside, Frame}
-use Rattle.line.proofs.InRows.{passes-none, passes-other, passes-quiet, passes-stx}
-use mathlib.Core.Bool.{false}
+use Rattle.line.specs.declared.rules.Phase.the-variants.{Outside}
+use Rattle.line.proofs.InRows.{not-stx, passes-none, passes-other, passes-quiet}
+use Rattle.line.specs.Laws.FrameNumbers.{at-other}
 use Rattle.line.proofs.rows.pass_outside.Statement.{statement}
 use Rattle.line.proofs.rows.pass_outside.Tie as tie
 
@@ -25,17 +25,8 @@ shared-slice-read-if1 c = search needs
 wire-byte-requires : tie.Need-wire-byte-requires Inv-loop μ-loop
 wire-byte-requires c κs = search needs
 
-add-t9 : tie.Need-add-t9 Inv-loop μ-loop
-add-t9 c = search needs
-
 returns : tie.Need-returns Inv-loop μ-loop
-returns c =
-    let at-loop-test = c .before .before .before in
-    let at-loop = at-loop-test .before in
-    let start = at-loop .before .before in
-    let l = at-loop .loop in
-    passes-quiet Outside Outside (start .args .bytes .now) (l .i) (l .inv) (at-loop-test .loop-test .taken) (Frame false)
-    (passes-stx (c .before .wire-byte .ensures) (c .if1 .taken))
+returns c = search needs
 
 add-i : tie.Need-add-i Inv-loop μ-loop
 add-i c = search needs
@@ -50,9 +41,10 @@ loop-again c =
     let at-loop = at-loop-test .before in
     let start = at-loop .before .before in
     let l = at-loop .loop in
+    let b = getD (start .args .bytes .now) (l .i) 0 in
+    let other = not-stx b _ (omega (arith, at-shared-slice-known2 .shared-slice-known2 .given (l .i))) (c .before .wire-byte .ensures) (c .if1 .left) in
     passes-quiet Outside Outside (start .args .bytes .now) (l .i) (l .inv) (at-loop-test .loop-test .taken) Outside
-    (passes-other (getD (start .args .bytes .now) (l .i) 0) _
-    (omega (arith, at-shared-slice-known2 .shared-slice-known2 .given (l .i))) (c .before .wire-byte .ensures) (c .if1 .left))
+    (λ frame. at-other frame b other) (passes-other b other)
 
 returns-2 : tie.Need-returns-2 Inv-loop μ-loop
 returns-2 c = search needs
@@ -66,7 +58,6 @@ pass-outside-spec =
     loop-holds
     shared-slice-read-if1
     wire-byte-requires
-    add-t9
     returns
     add-i
     loop-less

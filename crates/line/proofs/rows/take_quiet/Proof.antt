@@ -37,7 +37,7 @@ returns c =
     let at-enum-told = c .before .before in
     let at-phase-of = at-enum-told .before .before in
     let start = at-phase-of .before .before in
-    runs-passed (start .args .line) (sym (at-enum-told .enum-told .given .1) ∙ at-phase-of .phase-of .ensures) (λ mode h. refl) (c .before .pass-outside .ensures)
+    runs-passed (start .args .line) (sym (at-enum-told .enum-told .given .1) ∙ at-phase-of .phase-of .ensures) (λ mode frame h. refl) (c .before .pass-outside .ensures)
     (c .without-content .ensures)
 
 returns-2 : tie.Need-returns-2
@@ -45,7 +45,7 @@ returns-2 c =
     let at-phase = c .before .before .before in
     let at-phase-of = at-phase .before .before in
     let start = at-phase-of .before .before in
-    runs-passed (start .args .line) (sym (at-phase .phase .given .1) ∙ at-phase-of .phase-of .ensures) (λ mode h. refl) (c .before .pass-frame .ensures)
+    runs-passed (start .args .line) (sym (at-phase .phase .given .1) ∙ at-phase-of .phase-of .ensures) (λ mode frame h. refl) (c .before .pass-frame .ensures)
     (c .without-content2 .ensures)
 
 returns-3 : tie.Need-returns-3

@@ -9,20 +9,20 @@ enum-told c = search needs
 enum-known-phase : tie.Need-enum-known-phase
 enum-known-phase c = search needs
 
-cast-t9 : tie.Need-cast-t9
-cast-t9 c = search needs
+cast-t10 : tie.Need-cast-t10
+cast-t10 c = search needs
 
 enum-known-phase-2 : tie.Need-enum-known-phase-2
 enum-known-phase-2 c = search needs
-
-cast-t10 : tie.Need-cast-t10
-cast-t10 c = search needs
 
 cast-t11 : tie.Need-cast-t11
 cast-t11 c = search needs
 
 cast-t12 : tie.Need-cast-t12
 cast-t12 c = search needs
+
+cast-t13 : tie.Need-cast-t13
+cast-t13 c = search needs
 
 returns : tie.Need-returns
 returns c = rw (c .enum-told .given .1)
@@ -39,11 +39,11 @@ state-of-spec =
     (tie.spec
     enum-told
     enum-known-phase
-    cast-t9
-    enum-known-phase-2
     cast-t10
+    enum-known-phase-2
     cast-t11
     cast-t12
+    cast-t13
     returns
     returns-2
     returns-3)

@@ -55,42 +55,42 @@ returns c =
     let at-does = c .before .before in
     let at-move-of = at-does .before .before in
     let start = at-move-of .before in
-    does-quiet (start .args .mode) (start .args .length) (start .args .content .now) (at-move-of .move-of .ensures) _ (at-does .does .given .1) (c .quiet .ensures)
+    does-quiet (start .args .mode) (start .args .frame) (start .args .length) (start .args .content .now) (at-move-of .move-of .ensures) _ (at-does .does .given .1) (c .quiet .ensures)
 
 returns-2 : tie.Need-returns-2
 returns-2 c =
     let at-does2 = c .before .before in
     let at-move-of = at-does2 .before .before in
     let start = at-move-of .before in
-    does-opens (start .args .mode) (start .args .length) (start .args .content .now) (at-move-of .move-of .ensures) _ (at-does2 .does2 .given .1) (c .quiet2 .ensures)
+    does-opens (start .args .mode) (start .args .frame) (start .args .length) (start .args .content .now) (at-move-of .move-of .ensures) _ (at-does2 .does2 .given .1) (c .quiet2 .ensures)
 
 returns-3 : tie.Need-returns-3
 returns-3 c =
     let at-does3 = c .before .before in
     let at-move-of = at-does3 .before .before in
     let start = at-move-of .before in
-    does-says (start .args .mode) (start .args .length) (start .args .content .now) (at-move-of .move-of .ensures) _ _ (at-does3 .does3 .given .1) (c .state-of .ensures)
+    does-says (start .args .mode) (start .args .frame) (start .args .length) (start .args .content .now) (at-move-of .move-of .ensures) _ _ (at-does3 .does3 .given .1) (c .state-of .ensures)
 
 returns-4 : tie.Need-returns-4
 returns-4 c =
     let at-does4 = c .before .before .before in
     let at-move-of = at-does4 .before .before in
     let start = at-move-of .before in
-    does-adds (start .args .mode) (start .args .length) (start .args .content .now) (at-move-of .move-of .ensures) _ _ _ _ (at-does4 .does4 .given .1) (c .before .if1 .taken) (c .quiet3 .ensures)
+    does-adds (start .args .mode) (start .args .frame) (start .args .length) (start .args .content .now) (at-move-of .move-of .ensures) _ _ _ _ (at-does4 .does4 .given .1) (c .before .if1 .taken) (c .quiet3 .ensures)
 
 returns-5 : tie.Need-returns-5
 returns-5 c =
     let at-does4 = c .before .before .before in
     let at-move-of = at-does4 .before .before in
     let start = at-move-of .before in
-    does-not-add (start .args .mode) (start .args .length) (start .args .content .now) (at-move-of .move-of .ensures) _ _ _ _ (at-does4 .does4 .given .1) (omega (arith, c .before .if1 .left)) (c .quiet4 .ensures)
+    does-not-add (start .args .mode) (start .args .frame) (start .args .length) (start .args .content .now) (at-move-of .move-of .ensures) _ _ _ _ (at-does4 .does4 .given .1) (omega (arith, c .before .if1 .left)) (c .quiet4 .ensures)
 
 returns-6 : tie.Need-returns-6
 returns-6 c =
     let at-does5 = c .before .before .before .before .before in
     let at-move-of = at-does5 .before .before in
     let start = at-move-of .before in
-    does-judge (start .args .mode) (start .args .length) (start .args .content .now) (at-move-of .move-of .ensures) _ _ _ (at-does5 .does5 .given .1) (c .before .judged .ensures) (c .ended .ensures)
+    does-judge (start .args .mode) (start .args .frame) (start .args .length) (start .args .content .now) (at-move-of .move-of .ensures) _ _ _ (at-does5 .does5 .given .1) (c .before .judged .ensures) (c .ended .ensures)
 
 pub step-spec : {M : Type 1} → statement M
 step-spec =
