@@ -110,7 +110,12 @@ pub(crate) fn step(
             if length < 128 {
                 let at = length as usize;
                 content[at] = code;
-                quiet(mode, frame, Phase::Group(flaw, damaged, overlong), length + 1)
+                quiet(
+                    mode,
+                    frame,
+                    Phase::Group(flaw, damaged, overlong),
+                    length + 1,
+                )
             } else {
                 quiet(mode, frame, Phase::Group(flaw, damaged, true), length)
             }

@@ -17,10 +17,10 @@ use Rattle.station.specs.declared.Reply.the-variants.{Done, Refused}
 use Rattle.station.proofs.Copying.{paste-over, paste-is-over}
 
 -- 18
-pub round-short : (s : Station) (sheet : List ℕ) → length sheet < 1080
+pub round-short : (s : Station) (sheet : List ℕ) → length sheet < 1096
     → Round (round s sheet) (record { station = s; counts = replicate 8 0; reply = Refused SheetShort }) sheet
 unfolding turns need
-round-short s sheet h = rw (lt-leb 1080 (length sheet) h) (record { results = refl; leaves = refl })
+round-short s sheet h = rw (lt-leb 1096 (length sheet) h) (record { results = refl; leaves = refl })
 
 -- counts and offsets copied over the first 24 bytes, with the entries behind them
 sheet-laid : (c o e sheet : List ℕ) → length c ≡ 8 → length o ≡ 16 → 24 ≤ length sheet
@@ -50,7 +50,7 @@ counts-told : (ts : List Turned) → counts (map tells ts) ≡ map (λ (t : Turn
 counts-told [] = refl
 counts-told (t ∷ ts) = ap (λ (r : List ℕ). t .count ∷ r) (counts-told ts)
 
-pub round-done : (s : Station) (ls : List StationLine) (sheet counts offsets x y z : List ℕ) → 1080 ≤ length sheet
+pub round-done : (s : Station) (ls : List StationLine) (sheet counts offsets x y z : List ℕ) → 1096 ≤ length sheet
     → length counts ≡ 8 → length offsets ≡ 16 → ServesLines (s .lines) sheet ls counts offsets x
     → y ≡ paste x 0 counts (length counts) → z ≡ paste y 8 offsets (length offsets)
     → Round (round s sheet) (record { station = record { lines = ls }; counts = counts; reply = Done }) z
@@ -58,7 +58,7 @@ unfolding turns need sheetOf
 round-done s ls sheet counts offsets x y z h n m e p q =
     let k : z ≡ paste (paste x 0 counts (length counts)) 8 offsets (length offsets) = rw p at q in
     let w = sheet-laid counts offsets (entries (toldOf s)) sheet n m (omega arith) in
-    rw (le-leb 1080 (length sheet) h)
+    rw (le-leb 1096 (length sheet) h)
     (record {
       results =
           ap₂ (λ (l : List StationLine) (c : List ℕ). record { station = record { lines = l }; counts = c; reply = Done })

@@ -63,13 +63,13 @@ rows-none whole ms ps cs bs counts offsets sheet at i h em ep ec eb closed c o e
 
 -- one turn more
 pub rows-more : (whole : Progress) (ms ps cs bs : List (List ℕ)) (counts offsets sheet : List ℕ) (at i : ℕ)
-    (m p c : List ℕ) (count : ℕ) (heard : Heard) (offset at' : ℕ) (sheet' : List ℕ) → i < 8 → length ms ≡ 8
+    (m p c : List ℕ) (count : ℕ) (heard : Heard) (frame offset at' : ℕ) (sheet' : List ℕ) → i < 8 → length ms ≡ 8
     → length ps ≡ 8 → length cs ≡ 8 → length bs ≡ 8
     → Turns (lineFrom (getD ms i []) (getD ps i []) (getD cs i []) (getD bs i [])) (lineFrom m p c (getD bs i [])) count
-    heard
-    → offset ≡ offsetHeard heard at → at' ≡ at + length (entryHeard heard (getD (set cs i c) i []))
-    → sheet' ≡ paste sheet at (entryHeard heard (getD (set cs i c) i []))
-    (length (entryHeard heard (getD (set cs i c) i [])))
+    heard frame
+    → offset ≡ offsetHeard heard at → at' ≡ at + length (entryHeard heard frame (getD (set cs i c) i []))
+    → sheet' ≡ paste sheet at (entryHeard heard frame (getD (set cs i c) i []))
+    (length (entryHeard heard frame (getD (set cs i c) i [])))
     → whole
     ≡ servedFrom (8 - i) i
     (record { lines = linesFrom ms ps cs bs; counts = counts; offsets = offsets; at = at; sheet = sheet })
@@ -82,7 +82,7 @@ pub rows-more : (whole : Progress) (ms ps cs bs : List (List ℕ)) (counts offse
       at = at';
       sheet = sheet';
     })
-rows-more whole ms ps cs bs counts offsets sheet at i m p c count heard offset at' sheet' h em ep ec eb w eo ea es e =
+rows-more whole ms ps cs bs counts offsets sheet at i m p c count heard frame offset at' sheet' h em ep ec eb w eo ea es e =
     let l = lineFrom (getD ms i []) (getD ps i []) (getD cs i []) (getD bs i []) in
     let ls = linesFrom ms ps cs bs in
     let line : getD ls i (zeroLine [] []) ≡ l =
@@ -92,6 +92,6 @@ rows-more whole ms ps cs bs counts offsets sheet at i m p c count heard offset a
     let content : getD (set cs i c) i [] ≡ turning l .line .content =
     getD-set-same cs i c [] (omega arith) ∙ ap (λ (k : StationLine). k .content) (w .line-is) in
     let more = serve-more whole ls counts offsets sheet at i (turning l) offset at' sheet' h (ap turning (sym line))
-    (eo ∙ ap (λ (k : Heard). offsetHeard k at) (w .heard-is)) (ea ∙ rw (content, w .heard-is))
-    (es ∙ rw (content, w .heard-is)) e in
+    (eo ∙ ap (λ (k : Heard). offsetHeard k at) (w .heard-is)) (ea ∙ rw (content, w .heard-is, w .frame-is))
+    (es ∙ rw (content, w .heard-is, w .frame-is)) e in
     more ∙ rw (rows, w .line-is, w .count-is)

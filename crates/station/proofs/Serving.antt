@@ -6,6 +6,8 @@ use native.Mathlib.Omega.{arith}
 use lib.Dec.{leb→le}
 use lib.ListN.{length, take, drop, getD, set, replicate, length-append, take-append-drop}
 use lib.Seq.{paste, paste-zero, set-at, set-getD, getD-at, getD-set-other, append-snoc, length-take-le}
+use Rattle.line.specs.Entries.{framedIf}
+use Rattle.line.specs.State.{frameOf}
 use Rattle.line.specs.Steps.{heardAnswer}
 use Rattle.line.specs.Views.{FieldsInside}
 use Rattle.line.specs.Numbers.{shownIf}
@@ -38,10 +40,10 @@ servedOne i t v =
       offsets =
           set (set (v .offsets) (2 * i) (offsetHeard (t .heard) (v .at) % 256)) (2 * i + 1)
           (offsetHeard (t .heard) (v .at) / 256 % 256);
-      at = v .at + length (entryHeard (t .heard) (t .line .content));
+      at = v .at + length (entryHeard (t .heard) (t .line .state .frame) (t .line .content));
       sheet =
-          paste (v .sheet) (v .at) (entryHeard (t .heard) (t .line .content))
-          (length (entryHeard (t .heard) (t .line .content)));
+          paste (v .sheet) (v .at) (entryHeard (t .heard) (t .line .state .frame) (t .line .content))
+          (length (entryHeard (t .heard) (t .line .state .frame) (t .line .content)));
     }
 
 -- n lines from line i on
@@ -59,9 +61,9 @@ servedAll ls sheet =
 -- one line more
 pub serve-more : (whole : Progress) (lines : List StationLine) (counts offsets sheet : List ℕ) (at i : ℕ) (t : Turned)
     (offset at' : ℕ) (sheet' : List ℕ) → i < 8 → t ≡ turning (getD lines i (zeroLine [] []))
-    → offset ≡ offsetHeard (t .heard) at → at' ≡ at + length (entryHeard (t .heard) (t .line .content))
-    → sheet' ≡ paste sheet at (entryHeard (t .heard) (t .line .content))
-    (length (entryHeard (t .heard) (t .line .content)))
+    → offset ≡ offsetHeard (t .heard) at → at' ≡ at + length (entryHeard (t .heard) (t .line .state .frame) (t .line .content))
+    → sheet' ≡ paste sheet at (entryHeard (t .heard) (t .line .state .frame) (t .line .content))
+    (length (entryHeard (t .heard) (t .line .state .frame) (t .line .content)))
     → whole
     ≡ servedFrom (8 - i) i
     (record { lines = lines; counts = counts; offsets = offsets; at = at; sheet = sheet })
@@ -106,9 +108,9 @@ zeros-behind-two i x y xs z =
 zero-kept : (xs : List ℕ) (i : ℕ) → getD xs i 0 ≡ 0 → set xs i 0 ≡ xs
 zero-kept xs i h = rw h at (set-getD xs i 0)
 
-no-entry : (content : List ℕ) → entryHeard heard.Nothing content ≡ []
+no-entry : (frame : ℕ) (content : List ℕ) → entryHeard heard.Nothing frame content ≡ []
 unfolding entryHeard
-no-entry content = rw (heard-nothing content)
+no-entry frame content = rw (heard-nothing content)
 
 -- a line without a turn leaves all as it was, where zeros stand for it already
 pub serve-none : (whole : Progress) (lines : List StationLine) (counts offsets sheet : List ℕ) (at i : ℕ) → i < 8
@@ -123,7 +125,7 @@ pub serve-none : (whole : Progress) (lines : List StationLine) (counts offsets s
     (record { lines = lines; counts = counts; offsets = offsets; at = at; sheet = sheet })
 serve-none whole lines counts offsets sheet at i h t c o e =
     let l = getD lines i (zeroLine [] []) in
-    let n = no-entry (l .content) in
+    let n = no-entry (l .state .frame) (l .content) in
     let k : at ≡ at + 0 = omega arith in
     let more = serve-more whole lines counts offsets sheet at i (record { line = l; count = 0; heard = heard.Nothing }) 0 at
     sheet h (sym t) refl (rw n k) (rw n (paste-zero sheet at [])) e in
@@ -141,19 +143,19 @@ serve-end whole v i h e = let z : 8 - i ≡ 0 = omega arith in e ∙ rw z
 
 -- ---- What a turn puts on the sheet is what it tells
 
-entry-told : (t : Turned) → entryHeard (t .heard) (t .line .content) ≡ entryOf (tells t .entry)
+entry-told : (t : Turned) → entryHeard (t .heard) (t .line .state .frame) (t .line .content) ≡ entryOf (tells t .entry)
 unfolding entryHeard
 entry-told t = refl
 
-offset-told : (h : Heard) (content : List ℕ) (at : ℕ) → length content ≡ 128 → FieldsInside h
-    → offsetHeard h at ≡ offsetOf (shownIf (heardAnswer h content)) at
-offset-told heard.Nothing content at e i = rw (heard-nothing content)
-offset-told (heard.Accepted fields) content at e i = rw (heard-accepted fields content e i)
-offset-told (heard.Told notice) content at e i = rw (heard-told notice content)
+offset-told : (h : Heard) (n : ℕ) (content : List ℕ) (at : ℕ) → length content ≡ 128 → FieldsInside h
+    → offsetHeard h at ≡ offsetOf (framedIf n (shownIf (heardAnswer h content))) at
+offset-told heard.Nothing n content at e i = rw (heard-nothing content)
+offset-told (heard.Accepted fields) n content at e i = rw (heard-accepted fields content e i)
+offset-told (heard.Told notice) n content at e i = rw (heard-told notice content)
 
--- an entry has at most 132 bytes
-pub entry-most : (l : StationLine) → Long l → length (entryOf (tells (turning l) .entry)) ≤ 132
-entry-most l long = leb→le (length (entryOf (tells (turning l) .entry))) 132 (turn-short l long)
+-- an entry has at most 134 bytes
+pub entry-most : (l : StationLine) → Long l → length (entryOf (tells (turning l) .entry)) ≤ 134
+entry-most l long = leb→le (length (entryOf (tells (turning l) .entry))) 134 (turn-short l long)
 
 -- ---- All lines
 
@@ -200,7 +202,7 @@ one-served done rest l cd cz od oz front sheet at i long e1 e2 e3 e4 h =
     (simp append-assoc) in
     rw (
       entry-told t,
-      offset-told (t .heard) (t .line .content) at (v .long .content) (v .inside),
+      offset-told (t .heard) (frameOf (t .line .state)) (t .line .content) at (v .long .content) (v .inside),
       set-at done l rest (t .line) i e1,
       set-at cd 0 cz (t .count) i e2,
       paste-over front sheet (entryOf (tells t .entry)) at e4 h,
@@ -222,7 +224,7 @@ two-long n = refl
 
 serve-rest : (rest done : List StationLine) (cd od front sheet : List ℕ) (at i : ℕ) → Longs rest
     → length done ≡ i → length cd ≡ i → length od ≡ 2 * i → length front ≡ at
-    → at + 132 * length rest ≤ length sheet
+    → at + 134 * length rest ≤ length sheet
     → Done
     (servedFrom (length rest) i
     (record {
@@ -285,7 +287,7 @@ pairs-are (l ∷ ls) =
 over-own : (n : ℕ) (sheet : List ℕ) → n ≤ length sheet → over (take n sheet) sheet ≡ sheet
 over-own n sheet h = rw (length-take-le n sheet h) (take-append-drop n sheet)
 
-all-served : (ls : List StationLine) (sheet : List ℕ) → length ls ≡ 8 → Longs ls → 1080 ≤ length sheet
+all-served : (ls : List StationLine) (sheet : List ℕ) → length ls ≡ 8 → Longs ls → 1096 ≤ length sheet
     → Done (servedAll ls sheet) [] ls [] [] (take 24 sheet) sheet 24
 unfolding servedAll
 all-served ls sheet e hs h =
@@ -295,7 +297,7 @@ all-served ls sheet e hs h =
 
 -- what the loop leaves is what the turns of the lines leave
 pub serves-all : (ls : List StationLine) (sheet : List ℕ) (v : Progress) → length ls ≡ 8 → Longs ls
-    → 1080 ≤ length sheet → servedAll ls sheet ≡ v
+    → 1096 ≤ length sheet → servedAll ls sheet ≡ v
     → ServesLines ls sheet (v .lines) (v .counts) (v .offsets) (v .sheet)
 serves-all ls sheet v e hs h ev =
     let d : Done v [] ls [] [] (take 24 sheet) sheet 24 = rw ev at (all-served ls sheet e hs h) in

@@ -24,10 +24,10 @@ pub closed-turn : (l : StationLine) → l .opened ≡ 0 → turning l ≡ record
 unfolding turning pick
 closed-turn l h = rw (eq-eqb (l .opened) 0 h)
 
-pub turn-closed : (l : StationLine) → l .opened ≡ 0 → Turns l l 0 Nothing
+pub turn-closed : (l : StationLine) → l .opened ≡ 0 → Turns l l 0 Nothing (l .state .frame)
 turn-closed l h =
     let e = closed-turn l h in
-    record { line-is = rw e; count-is = rw e; heard-is = rw e; count-most = omega arith; inside = tt }
+    record { line-is = rw e; count-is = rw e; heard-is = rw e; frame-is = rw e; count-most = omega arith; inside = tt }
 
 module _ (l : StationLine) (long : Long l) (from to : ℕ) (w : Waits l from to) (end : ℕ) (h : end ≡ endOf from to) where
   -- the end lies between the first waiting byte and the end of those that wait
@@ -72,7 +72,7 @@ module _ (l : StationLine) (long : Long l) (from to : ℕ) (w : Waits l from to)
           content = content;
           inbox = l .inbox;
         })
-        (t .count) (t .heard)
+        (t .count) (t .heard) (t .line .frame)
     unfolding turning pick
     turn-open o content g =
         let e = ne-eqb (l .opened) 0 o in
@@ -81,6 +81,7 @@ module _ (l : StationLine) (long : Long l) (from to : ℕ) (w : Waits l from to)
           line-is = rw (e, ← turn-bytes, g, x, w .count, w .start);
           count-is = rw (e, ← turn-bytes, x);
           heard-is = rw (e, ← turn-bytes, x);
+          frame-is = rw (e, ← turn-bytes, x);
           count-most = took-few .0;
           inside = rw x (v .inside);
         }

@@ -8,11 +8,11 @@ use mathlib.Core.Logic.{_≢_, _↔_}
 use mathlib.Core.Bool.{not}
 use mathlib.Core.Option.{none, some}
 use mathlib.Core.List.{List, [], _∷_, _++_, map}
-use Prim.Native.Nat.{ℕ, _+_, _/_, _≤_, _<_}
+use Prim.Native.Nat.{ℕ, suc, _+_, _/_, _%_, _≤_, _<_}
 use lib.Dec.{T, eqb}
 use lib.ListN.{length, take, drop}
-use Rattle.characters.specs.Answers.{given, every, firstOf}
-use Rattle.characters.specs.Wire.{isSound, characterOf, ETX, CR}
+use Rattle.characters.specs.Answers.{given, every, pick, firstOf}
+use Rattle.characters.specs.Wire.{isSound, characterOf, STX, ETX, CR}
 use Rattle.groups.specs.Modes.{modeOf, separator}
 use Rattle.groups.specs.Groups.{Group}
 use Rattle.groups.specs.Judging.{judging, shown}
@@ -25,13 +25,16 @@ use Rattle.groups.specs.Numbers.{numberOf, numberOfWriting}
 use Rattle.groups.specs.Right.{RightGroup}
 use Rattle.groups.specs.Promises as groups
 use Rattle.groups.specs.declared.Mode.{Mode}
-use Rattle.line.specs.Entries.{accepted, only}
+use Rattle.line.specs.Entries.{Entry, accepted, only, Framed, framed}
 use Rattle.line.specs.ByBytes.{
   is,
   openFrame,
   openGroup,
   groupDue,
   answerDue,
+  countOf,
+  frameNumber,
+  entryDue,
   answersDue,
   EndsInRightGroup,
   RightFrame,
@@ -159,10 +162,11 @@ pub accepted-is-written : (mode : ℕ) (c : List ℕ) (g : Group) (room : ℕ) �
     → length c + 2 ≤ room → writing mode g room ≡ given (onTheWire c)
 accepted-is-written = groups.accepted-is-written
 
--- What is written is accepted on a line of the mode, in an open frame with no group open: its only answer is the group.
+-- What is written is accepted on a line of the mode, in an open frame with no group open: its only answer is the group, with the
+-- number of this frame.
 pub written-on-a-line : (mode : ℕ) (m : Mode) → modeOf mode ≡ some m → (g : Group) (room : ℕ) (w : List ℕ)
     → writing mode g room ≡ given w → (before since : List ℕ) → openFrame before ≡ some since
-    → openGroup since ≡ none → answersDue m before w ≡ accepted g ∷ []
+    → openGroup since ≡ none → answersDue m before w ≡ framed (frameNumber before) (accepted g) ∷ []
 written-on-a-line = line.written-by-bytes
 
 -- A writing's number is that of the first of document 01's conditions that holds, in their order, and 0 where none does.
@@ -181,14 +185,35 @@ pub none-twice : (i : ℕ) (cs : List Call) → i < 8 → accountOf i cs .taken 
 none-twice = accounts.none-twice
 
 -- The answers read off the sheets are, in order, exactly those due to the first so many bytes accepted, as many as were
--- taken, from the opening on. So how they were cut into deliveries makes no difference.
+-- taken, from the opening on, each with the number of its frame. So how they were cut into deliveries makes no difference.
 pub answers-right : (i : ℕ) (cs : List Call) (m : Mode) → i < 8 → accountOf i cs .mode ≡ some m
     → accountOf i cs .answered ≡ answersDue m [] (bytesTaken (accountOf i cs))
 answers-right = accounts.answers-right
 
+-- Document 02, M-108. The number with an answer is the count of the sound STX among the bytes since the opening, the answer's
+-- own byte included, by remainder of 65,536; and without it the answer is the one that document 01 has due.
+pub frames-counted : (m : Mode) (before : List ℕ) (b : ℕ) (e : Framed Entry) → entryDue m before b ≡ some e
+    → (e .frame ≡ countOf (is STX) (before ++ b ∷ []) % 65536) × (answerDue m before b ≡ some (e .what))
+frames-counted = line.number-counted
+
+-- The same in its own words: "0 when opened, one more at every STX, 65,535 followed by 0".
+pub frame-opened : frameNumber [] ≡ 0
+frame-opened = line.number-opened
+
+pub frame-next : (before : List ℕ) (b : ℕ)
+    → frameNumber (before ++ b ∷ [])
+    ≡ pick (is STX b) (pick (eqb (frameNumber before) 65535) 0 (suc (frameNumber before))) (frameNumber before)
+frame-next = line.number-next
+
+-- So it tells "which groups came together": with fewer than 65,536 STX between them, two answers of a line have one number
+-- exactly where there is no STX between them.
+pub came-together : (before bs : List ℕ) → countOf (is STX) bs < 65536
+    → (frameNumber (before ++ bs) ≡ frameNumber before) ↔ (countOf (is STX) bs ≡ 0)
+came-together = line.number-same
+
 -- Each turn takes, of the bytes accepted and not yet taken, exactly those up to and including the first of the oldest 64
 -- that gives an answer, and all 64, or all that wait, where none does; and it tells that answer. A closed line's takes none.
-pub counts-right : (i : ℕ) (cs : List Call) (sheet : List ℕ) → i < 8 → 1080 ≤ length sheet
+pub counts-right : (i : ℕ) (cs : List Call) (sheet : List ℕ) → i < 8 → 1096 ≤ length sheet
     → readTurn (gets (run allClosed cs) (serves sheet) .lent) i ≡ turnDue 64 (accountOf i cs)
 counts-right = rounds.turns-right
 
@@ -214,10 +239,10 @@ pub taken-in-time : (i : ℕ) (cs ds : List Call) (m : Mode) (p more : List ℕ)
     → length p ≤ takenIn (seen i (run allClosed cs) ds)
 taken-in-time = accounts.taken-in-time
 
--- The sheet of any round is the one that document 01 lays out for the eight turns that are read off it; it fits 1,080 bytes
+-- The sheet of any round is the one that document 01 lays out for the eight turns that are read off it; it fits 1,096 bytes
 -- and is laid over the front of the lent one, the rest of which is unchanged; the counts of the result are its first eight.
-pub sheet-right : (cs : List Call) (sheet : List ℕ) → 1080 ≤ length sheet
+pub sheet-right : (cs : List Call) (sheet : List ℕ) → 1096 ≤ length sheet
     → let got = gets (run allClosed cs) (serves sheet) in
     let laid = sheetOf (turnsRead (got .lent)) in
-    (length laid ≤ 1080) × (got .lent ≡ laid ++ drop (length laid) sheet) × (got .counts ≡ take 8 (got .lent))
+    (length laid ≤ 1096) × (got .lent ≡ laid ++ drop (length laid) sheet) × (got .counts ≡ take 8 (got .lent))
 sheet-right = rounds.sheet-right

@@ -41,7 +41,7 @@ deliveryDue a bytes = pick (isKnown (a .mode)) (pick (leb (length (bytesWaiting 
 abbrev pub numberDue : List Call → Call → ℕ
 numberDue before (opens i mode) = pick (leb 8 i) 16 (pick (ltb mode 3) 0 19)
 numberDue before (delivers i bytes) = pick (leb 8 i) 16 (deliveryDue (accountOf i before) bytes)
-numberDue before (serves sheet) = pick (leb 1080 (length sheet)) 0 18
+numberDue before (serves sheet) = pick (leb 1096 (length sheet)) 0 18
 
 -- the bytes that a call lends
 abbrev pub lentBy : Call → List ℕ

@@ -16,7 +16,7 @@ marksOf l =
     l .opened ∷ l .state .mode ∷ l .state .phase ∷ l .state .flaw ∷ l .state .damaged ∷ l .state .overlong ∷ []
 
 abbrev placesOf : StationLine → List ℕ
-placesOf l = l .state .length ∷ l .first ∷ l .count ∷ []
+placesOf l = l .state .length ∷ l .first ∷ l .count ∷ l .state .frame ∷ []
 
 -- the memory of some lines
 abbrev memoryOf : List StationLine → Memory
@@ -35,12 +35,13 @@ six-marks (a1 ∷ a2 ∷ a3 ∷ a4 ∷ a5 ∷ []) p c b h = absurd (omega arith)
 six-marks (a1 ∷ a2 ∷ a3 ∷ a4 ∷ a5 ∷ a6 ∷ []) p c b h = refl
 six-marks (a1 ∷ a2 ∷ a3 ∷ a4 ∷ a5 ∷ a6 ∷ a7 ∷ x) p c b h = absurd (omega arith)
 
-three-places : (m x c b : List ℕ) → length x ≡ 3 → placesOf (lineFrom m x c b) ≡ x
-three-places m [] c b h = absurd (omega arith)
-three-places m (a1 ∷ []) c b h = absurd (omega arith)
-three-places m (a1 ∷ a2 ∷ []) c b h = absurd (omega arith)
-three-places m (a1 ∷ a2 ∷ a3 ∷ []) c b h = refl
-three-places m (a1 ∷ a2 ∷ a3 ∷ a4 ∷ x) c b h = absurd (omega arith)
+four-places : (m x c b : List ℕ) → length x ≡ 4 → placesOf (lineFrom m x c b) ≡ x
+four-places m [] c b h = absurd (omega arith)
+four-places m (a1 ∷ []) c b h = absurd (omega arith)
+four-places m (a1 ∷ a2 ∷ []) c b h = absurd (omega arith)
+four-places m (a1 ∷ a2 ∷ a3 ∷ []) c b h = absurd (omega arith)
+four-places m (a1 ∷ a2 ∷ a3 ∷ a4 ∷ []) c b h = refl
+four-places m (a1 ∷ a2 ∷ a3 ∷ a4 ∷ a5 ∷ x) c b h = absurd (omega arith)
 
 -- the four arrays are those of their lines
 record Back (ms ps cs bs : List (List ℕ)) : Type 0 where
@@ -50,7 +51,7 @@ record Back (ms ps cs bs : List (List ℕ)) : Type 0 where
   inboxes-are : map (λ (l : StationLine). l .inbox) (linesFrom ms ps cs bs) ≡ bs
 
 rows-back : (n : ℕ) (ms ps cs bs : List (List ℕ)) → length ms ≡ n → length ps ≡ n → length cs ≡ n → length bs ≡ n
-    → Wide 6 ms → Wide 3 ps → Back ms ps cs bs
+    → Wide 6 ms → Wide 4 ps → Back ms ps cs bs
 unfolding linesFrom
 rows-back zero [] [] [] [] em ep ec eb wm wp =
     record { marks-are = refl; places-are = refl; contents-are = refl; inboxes-are = refl }
@@ -66,7 +67,7 @@ rows-back (suc n) (m ∷ ms) (p ∷ ps) (c ∷ cs) (b ∷ bs) em ep ec eb (one-r
     let r = rows-back n ms ps cs bs (omega arith) (omega arith) (omega arith) (omega arith) wm wp in
     record {
       marks-are = ap₂ (λ (x : List ℕ) (xs : List (List ℕ)). x ∷ xs) (six-marks m p c b h) (r .marks-are);
-      places-are = ap₂ (λ (x : List ℕ) (xs : List (List ℕ)). x ∷ xs) (three-places m p c b k) (r .places-are);
+      places-are = ap₂ (λ (x : List ℕ) (xs : List (List ℕ)). x ∷ xs) (four-places m p c b k) (r .places-are);
       contents-are = ap (λ (xs : List (List ℕ)). c ∷ xs) (r .contents-are);
       inboxes-are = ap (λ (xs : List (List ℕ)). b ∷ xs) (r .inboxes-are);
     }

@@ -9,7 +9,7 @@ use lib.ListN.{length, take, drop}
 use Rattle.characters.specs.Answers.{pick}
 use Rattle.groups.specs.Modes.{modeOf, isMode}
 use Rattle.groups.specs.declared.Mode.{Mode}
-use Rattle.line.specs.Entries.{Entry, entryList}
+use Rattle.line.specs.Entries.{Entry, Framed, entryList}
 use Rattle.station.specs.Numbers.{numberOf}
 use Rattle.station.specs.Stations.{allClosed, called, opening, delivering}
 use Rattle.station.specs.Sheets.{Told}
@@ -68,7 +68,7 @@ pub data Event : Type 0 where
 unfoldable pub hears : ℕ → Call → List Event
 hears i (opens j mode) = pick (eqb j i) (openingIn mode ∷ []) []
 hears i (delivers j bytes) = pick (eqb j i) (deliveryOf bytes ∷ []) []
-hears i (serves sheet) = pick (leb 1080 (length sheet)) (turn ∷ []) []
+hears i (serves sheet) = pick (leb 1096 (length sheet)) (turn ∷ []) []
 
 abbrev pub events : ℕ → List Call → List Event
 events i [] = []
@@ -97,12 +97,12 @@ seen i s cs = seenBy i cs (gotsOf s cs)
 -- ---- The account of a line since its last opening, from what the callers saw
 
 -- the mode it was opened in, if it was opened; the bytes accepted for it; how many of these were taken; and the answers
--- that the sheets showed
+-- that the sheets showed, with the numbers of their frames
 pub record Account : Type 0 where
   pub mode : Option Mode
   pub accepted : List ℕ
   pub taken : ℕ
-  pub answered : List Entry
+  pub answered : List (Framed Entry)
 
 abbrev pub afresh : Option Mode → Account
 afresh mode = record { mode = mode; accepted = []; taken = 0; answered = [] }

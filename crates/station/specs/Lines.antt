@@ -21,7 +21,8 @@ isOpen l = not (eqb (l .opened) 0)
 unfoldable pub waiting : StationLine → List ℕ
 waiting l = take (l .count) (drop (l .first) (l .inbox))
 
--- "Opening a line with a mode empties its inbox and puts it outside, whether it was open or not."
+-- "Opening a line with a mode empties its inbox and puts it outside, whether it was open or not."; its frame number is "0
+-- when opened" (document 02, M-108)
 abbrev pub openedAs : StationLine → LineState → StationLine
 openedAs l state =
     record { opened = 1; state = state; first = 0; count = 0; content = l .content; inbox = l .inbox }

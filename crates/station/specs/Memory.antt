@@ -8,7 +8,7 @@ use denote.Ref.{RefT, now}
 use denote.Triple.Both.{Both}
 use Rattle.station.specs.Records.{StationLine, Station}
 
--- the four arrays, [[u8; 6]; 8], [[u16; 3]; 8], [[u8; 128]; 8] and [[u8; 256]; 8]
+-- the four arrays, [[u8; 6]; 8], [[u16; 4]; 8], [[u8; 128]; 8] and [[u8; 256]; 8]
 pub record Memory : Type 0 where
   pub marks : List (List ℕ)
   pub places : List (List ℕ)
@@ -22,7 +22,7 @@ ofRows marks places contents inboxes =
 
 -- ---- What they hold
 
--- a line by its rows: six marks, three places, the content and the inbox
+-- a line by its rows: six marks, four places, the content and the inbox
 abbrev pub lineFrom : List ℕ → List ℕ → List ℕ → List ℕ → StationLine
 lineFrom marks places content inbox =
     record {
@@ -34,6 +34,7 @@ lineFrom marks places content inbox =
         damaged = getD marks 4 0;
         overlong = getD marks 5 0;
         length = getD places 0 0;
+        frame = getD places 3 0;
       };
       first = getD places 1 0;
       count = getD places 2 0;
@@ -56,7 +57,7 @@ stationIn m = record { lines = linesFrom (m .marks) (m .places) (m .contents) (m
 -- memory of zeros
 abbrev pub zeros : Memory
 zeros =
-    ofRows (replicate 8 (replicate 6 0)) (replicate 8 (replicate 3 0)) (replicate 8 (replicate 128 0))
+    ofRows (replicate 8 (replicate 6 0)) (replicate 8 (replicate 4 0)) (replicate 8 (replicate 128 0))
     (replicate 8 (replicate 256 0))
 
 -- ---- What the types of the arrays tell
@@ -73,7 +74,7 @@ pub record Eight (n : ℕ) (rows : List (List ℕ)) : Type 0 where
 
 pub record Sized (m : Memory) : Type 0 where
   pub marks : Eight 6 (m .marks)
-  pub places : Eight 3 (m .places)
+  pub places : Eight 4 (m .places)
   pub contents : Eight 128 (m .contents)
   pub inboxes : Eight 256 (m .inboxes)
 

@@ -8,30 +8,31 @@ use lib.Dec.{leb}
 use lib.ListN.{length, take, drop}
 use Rattle.characters.specs.Answers.{pick}
 use Rattle.groups.specs.Modes.{isMode}
-use Rattle.line.specs.Lines.{State, outside, after, answers, untilAnswer}
-use Rattle.line.specs.Entries.{firstEntry}
-use Rattle.line.specs.Numbers.{shown}
+use Rattle.line.specs.Lines.{State, untilAnswer}
+use Rattle.line.specs.Entries.{Framed, firstEntry}
+use Rattle.line.specs.FrameNumbers.{begun, framedAfter, framedAnswers}
+use Rattle.line.specs.Numbers.{shownFramed}
 use Rattle.station.specs.Lines.{mostInTurn}
 use Rattle.station.specs.Sheets.{Told}
 use Rattle.station.specs.History.{Event, openingIn, deliveryOf, turn, Sight, was, got, took}
 
--- a line is closed, or open: its mode, where it is, and the bytes that wait
+-- a line is closed, or open: its mode, where it is with the number of its frame, and the bytes that wait
 pub data Line : Type 0 where
   closed : Line
-  opened : (mode : ℕ) (state : State) (inbox : List ℕ) → Line
+  opened : (mode : ℕ) (state : Framed State) (inbox : List ℕ) → Line
 
 -- how many bytes a turn takes: "its oldest bytes, at most 64", and none after one that gives an answer
-abbrev pub quota : ℕ → State → List ℕ → ℕ
-quota mode s inbox = untilAnswer mode s (take mostInTurn inbox)
+abbrev pub quota : ℕ → Framed State → List ℕ → ℕ
+quota mode s inbox = untilAnswer mode (s .what) (take mostInTurn inbox)
 
 unfoldable pub lineAfter : Line → Event → Line
-lineAfter l (openingIn mode) = pick (isMode mode) (opened mode outside []) l
+lineAfter l (openingIn mode) = pick (isMode mode) (opened mode begun []) l
 lineAfter closed (deliveryOf bytes) = closed
 lineAfter (opened mode s inbox) (deliveryOf bytes) =
     pick (leb (length inbox + length bytes) 256) (opened mode s (inbox ++ bytes)) (opened mode s inbox)
 lineAfter closed turn = closed
 lineAfter (opened mode s inbox) turn =
-    opened mode (after mode s (take (quota mode s inbox) inbox)) (drop (quota mode s inbox) inbox)
+    opened mode (framedAfter mode s (take (quota mode s inbox) inbox)) (drop (quota mode s inbox) inbox)
 
 -- a turn gives at most one answer
 unfoldable pub turnTold : Line → Told
@@ -39,7 +40,7 @@ turnTold closed = record { count = 0; entry = none }
 turnTold (opened mode s inbox) =
     record {
       count = quota mode s inbox;
-      entry = firstEntry (map shown (answers mode s (take (quota mode s inbox) inbox)));
+      entry = firstEntry (map shownFramed (framedAnswers mode s (take (quota mode s inbox) inbox)));
     }
 
 -- 17, 15 or 0

@@ -1,12 +1,13 @@
 -- What the parts of the code hand to each other, by the station's own definitions.
 use mathlib.Core.Path.{_≡_}
 use mathlib.Core.List.{List, _∷_, _++_, map}
-use Prim.Native.Nat.{ℕ, _+_, _-_, _≤_}
+use Prim.Native.Nat.{ℕ, _+_, _-_, _/_, _%_, _≤_}
 use lib.Dec.{ltb}
 use lib.ListN.{length, take, drop}
 use lib.Seq.{paste}
 use Rattle.characters.specs.Answers.{Answer, refused, given, pick}
 use Rattle.groups.specs.declared.Stretch.{Stretch}
+use Rattle.line.specs.Entries.{framedIf}
 use Rattle.line.specs.Steps.{heardAnswer}
 use Rattle.line.specs.Views.{FieldsInside}
 use Rattle.line.specs.Numbers.{shownIf}
@@ -61,11 +62,12 @@ pub record Fills (l : StationLine) (bytes : List ℕ) (reply : Reply) (after : S
 unfoldable pub endOf : ℕ → ℕ → ℕ
 endOf from to = pick (ltb mostInTurn (to - from)) (from + mostInTurn) to
 
--- a turn of a line: the line afterwards, the count, and what was heard
-pub record Turns (l after : StationLine) (count : ℕ) (heard : Heard) : Type 0 where
+-- a turn of a line: the line afterwards, the count, what was heard, and the number of the frame
+pub record Turns (l after : StationLine) (count : ℕ) (heard : Heard) (frame : ℕ) : Type 0 where
   pub line-is : after ≡ turning l .line
   pub count-is : count ≡ turning l .count
   pub heard-is : heard ≡ turning l .heard
+  pub frame-is : frame ≡ turning l .line .state .frame
   pub count-most : count ≤ mostInTurn
   pub inside : FieldsInside heard
 
@@ -75,14 +77,14 @@ pub record Turns (l after : StationLine) (count : ℕ) (heard : Heard) : Type 0 
 abbrev pub stretchIn : Stretch → List ℕ → List ℕ
 stretchIn s content = take (s .length) (drop (s .start) content)
 
--- the entry of what was heard, none where there was no answer
-unfoldable pub entryHeard : Heard → List ℕ → List ℕ
-entryHeard heard content = entryOf (shownIf (heardAnswer heard content))
+-- the entry of what was heard in the frame with this number, none where there was no answer
+unfoldable pub entryHeard : Heard → ℕ → List ℕ → List ℕ
+entryHeard heard frame content = entryOf (framedIf (frame % 65536) (shownIf (heardAnswer heard content)))
 
 -- the entry of an accepted group whose fields lie inside the content
-abbrev pub groupEntry : Fields → List ℕ → List ℕ
-groupEntry fields content =
-    1 ∷ fields .label .length ∷ fields .stamp .length ∷ fields .«data» .length
+abbrev pub groupEntry : Fields → ℕ → List ℕ → List ℕ
+groupEntry fields frame content =
+    1 ∷ fields .label .length ∷ fields .stamp .length ∷ fields .«data» .length ∷ frame % 256 ∷ frame / 256 % 256
     ∷ (stretchIn (fields .label) content ++ (stretchIn (fields .stamp) content ++ stretchIn (fields .«data») content))
 
 -- the offset of an entry that would stand at a place
@@ -98,12 +100,12 @@ Put sheet at entry place after = (place ≡ at + length entry) × (after ≡ pas
 -- and the place is no further than the longest entry reaches
 abbrev pub PutShort : List ℕ → ℕ → List ℕ → ℕ → List ℕ → Type 0
 PutShort sheet at entry place after =
-    (place ≡ at + length entry) × (after ≡ paste sheet at entry (length entry)) × (place ≤ at + 132)
+    (place ≡ at + length entry) × (after ≡ paste sheet at entry (length entry)) × (place ≤ at + 134)
 
 -- there is room for the longest entry, and the fields of a group lie inside its content
 pub record Fits (heard : Heard) (at room : ℕ) : Type 0 where
   pub inside : FieldsInside heard
-  pub enough : at + 132 ≤ room
+  pub enough : at + 134 ≤ room
 
 -- ---- The turns of a round
 

@@ -6,26 +6,28 @@ use lib.Dec.{eqb}
 use lib.ListN.{getD, take, drop}
 use Rattle.characters.specs.Answers.{pick}
 use Rattle.groups.specs.Groups.{groupOf}
-use Rattle.line.specs.Entries.{Entry, accepted, refusedAt}
+use Rattle.line.specs.Entries.{Entry, accepted, refusedAt, Framed, framed}
 use Rattle.station.specs.Sheets.{Told}
 
--- an entry by its four bytes and its text: 1 has lengths and the three texts, all others a place
+-- an answer by the four bytes in front and the text: 1 has lengths and the three texts, all others a place
 abbrev pub entryBy : ℕ → ℕ → ℕ → ℕ → List ℕ → Entry
 entryBy n a b c text =
     pick (eqb n 1)
     (accepted (groupOf (take a text) (take b (drop a text)) (take c (drop b (drop a text)))))
     (refusedAt n c)
 
--- the entry that stands at the front of these bytes
-unfoldable pub readEntry : List ℕ → Option Entry
+-- the entry that stands at the front of these bytes: the number of its frame is behind the four, low byte first
+unfoldable pub readEntry : List ℕ → Option (Framed Entry)
 readEntry [] = none
 readEntry (n ∷ []) = none
 readEntry (n ∷ a ∷ []) = none
 readEntry (n ∷ a ∷ b ∷ []) = none
-readEntry (n ∷ a ∷ b ∷ c ∷ text) = some (entryBy n a b c text)
+readEntry (n ∷ a ∷ b ∷ c ∷ []) = none
+readEntry (n ∷ a ∷ b ∷ c ∷ low ∷ []) = none
+readEntry (n ∷ a ∷ b ∷ c ∷ low ∷ high ∷ text) = some (framed (low + 256 * high) (entryBy n a b c text))
 
 -- the entry at an offset; "0 where a line has no answer"
-unfoldable pub entryAt : List ℕ → ℕ → Option Entry
+unfoldable pub entryAt : List ℕ → ℕ → Option (Framed Entry)
 entryAt sheet offset = pick (eqb offset 0) none (readEntry (drop offset sheet))
 
 -- what a sheet tells of line i's turn: byte i is the count, bytes 8 + 2i and 9 + 2i are the offset

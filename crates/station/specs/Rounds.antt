@@ -5,6 +5,8 @@ use Prim.Native.Nat.{ℕ}
 use lib.Dec.{leb}
 use lib.ListN.{length, replicate}
 use Rattle.characters.specs.Answers.{Answer, refused, given, need}
+use Rattle.line.specs.Entries.{framedIf}
+use Rattle.line.specs.State.{frameOf}
 use Rattle.line.specs.Steps.{heardAnswer}
 use Rattle.line.specs.Numbers.{shownIf}
 use Rattle.station.specs.Lines.{over, turning}
@@ -14,13 +16,17 @@ use Rattle.station.specs.declared.Refusal.{Refusal}
 use Rattle.station.specs.declared.Refusal.the-variants.{SheetShort}
 use Rattle.station.specs.declared.Reply.the-variants.{Done, Refused}
 
--- "A round goes through lines 0 to 7." "18: sheet under 1,080 bytes"
+-- "A round goes through lines 0 to 7." "18: sheet under 1,096 bytes"
 unfoldable pub turns : Station → List ℕ → Answer Refusal (List Turned)
 turns s sheet = need (leb smallestSheet (length sheet)) SheetShort (given (map turning (s .lines)))
 
--- "The round tells how many bytes each line's turn took", and its answer
+-- "The round tells how many bytes each line's turn took", and its answer, with the number that the line's frame has then
 abbrev pub tells : Turned → Told
-tells t = record { count = t .count; entry = shownIf (heardAnswer (t .heard) (t .line .content)) }
+tells t =
+    record {
+      count = t .count;
+      entry = framedIf (frameOf (t .line .state)) (shownIf (heardAnswer (t .heard) (t .line .content)));
+    }
 
 -- what the eight turns of a round tell
 abbrev pub toldOf : Station → List Told

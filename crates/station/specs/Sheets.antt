@@ -5,12 +5,12 @@ use Prim.Native.Nat.{ℕ, _+_, _%_, _/_}
 use lib.Dec.{eqb}
 use lib.ListN.{length}
 use Rattle.characters.specs.Answers.{pick}
-use Rattle.line.specs.Entries.{Entry}
+use Rattle.line.specs.Entries.{Entry, Framed}
 
 -- what a round tells of one line's turn: how many bytes it took, and its answer, if it gave one
 pub record Told : Type 0 where
   pub count : ℕ
-  pub entry : Option Entry
+  pub entry : Option (Framed Entry)
 
 -- the turn of a line that is closed, or on which nothing waits
 abbrev pub idle : Told
@@ -20,26 +20,31 @@ idle = record { count = 0; entry = none }
 abbrev pub fourthByte : Entry → ℕ
 fourthByte e = pick (eqb (e .number) 1) (length (e .«data»)) (e .place)
 
--- "An entry is answer number, label length, stamp length, data length, then label, stamp and data."
-unfoldable pub entryBytes : Entry → List ℕ
-entryBytes e =
-    e .number ∷ length (e .label) ∷ length (e .stamp) ∷ fourthByte e
-    ∷ (e .label ++ (e .stamp ++ e .«data»))
-
-abbrev pub entryOf : Option Entry → List ℕ
-entryOf none = []
-entryOf (some e) = entryBytes e
-
--- "The lent sheet must have at least 1,080 bytes."
-abbrev pub smallestSheet : ℕ
-smallestSheet = 1080
-
 -- "16 bits, low byte first"
 unfoldable pub twoBytes : ℕ → List ℕ
 twoBytes n = n % 256 ∷ n / 256 % 256 ∷ []
 
+-- "An entry is answer number, label length, stamp length, data length, then label, stamp and data."; and the frame number
+-- "two bytes, low byte first, before the text" (document 02, M-108)
+abbrev pub headOf : Entry → List ℕ
+headOf e = e .number ∷ length (e .label) ∷ length (e .stamp) ∷ fourthByte e ∷ []
+
+abbrev pub textOf : Entry → List ℕ
+textOf e = e .label ++ (e .stamp ++ e .«data»)
+
+unfoldable pub entryBytes : Framed Entry → List ℕ
+entryBytes e = headOf (e .what) ++ (twoBytes (e .frame) ++ textOf (e .what))
+
+abbrev pub entryOf : Option (Framed Entry) → List ℕ
+entryOf none = []
+entryOf (some e) = entryBytes e
+
+-- "The lent sheet must have at least" 1,080 bytes in document 01: "The smallest sheet, and so 18, is now at 1,096 bytes."
+abbrev pub smallestSheet : ℕ
+smallestSheet = 1096
+
 -- "0 where a line has no answer"
-abbrev pub offsetOf : Option Entry → ℕ → ℕ
+abbrev pub offsetOf : Option (Framed Entry) → ℕ → ℕ
 offsetOf none at = 0
 offsetOf (some e) at = at
 

@@ -19,7 +19,7 @@ abbrev pub zeroLine : List ℕ → List ℕ → StationLine
 zeroLine content inbox =
     record {
       opened = 0;
-      state = record { mode = 0; phase = 0; flaw = 0; damaged = 0; overlong = 0; length = 0 };
+      state = record { mode = 0; phase = 0; flaw = 0; damaged = 0; overlong = 0; length = 0; frame = 0 };
       first = 0;
       count = 0;
       content = content;

@@ -37,7 +37,7 @@ pub(crate) fn span_of(first: u16, count: u16) -> Span
 }
 
 // The numbers of a line that is opened: nothing waits.
-pub(crate) fn opened(marks: &mut [u8; 6], places: &mut [u16; 3], state: LineState)
+pub(crate) fn opened(marks: &mut [u8; 6], places: &mut [u16; 4], state: LineState)
     ensures { λ _. ⌜ OpensRows (now (marks .entry)) (now (places .entry)) state (now (marks .exit)) (now (places .exit)) ⌝ }
 {
     *marks = [
@@ -48,7 +48,7 @@ pub(crate) fn opened(marks: &mut [u8; 6], places: &mut [u16; 3], state: LineStat
         state.damaged,
         state.overlong,
     ];
-    *places = [state.length, 0, 0];
+    *places = [state.length, 0, 0, state.frame];
 }
 
 // Moves what waits to the front of the inbox, and lays the bytes behind it.
@@ -63,7 +63,7 @@ fn lay(inbox: &mut [u8; 256], from: usize, to: usize, bytes: &[u8])
 }
 
 // A refused delivery: what a delivery changes comes along so that the contract can say that it stays as it was.
-fn stop(refusal: Refusal, places: &mut [u16; 3], inbox: &mut [u8; 256]) -> Reply
+fn stop(refusal: Refusal, places: &mut [u16; 4], inbox: &mut [u8; 256]) -> Reply
     ensures { λ r. ⌜ (r ≡ Reply.Refused refusal) × (now (places .exit) ≡ now (places .entry)) × (now (inbox .exit) ≡ now (inbox .entry)) ⌝ }
 {
     Reply::Refused(refusal)
@@ -72,7 +72,7 @@ fn stop(refusal: Refusal, places: &mut [u16; 3], inbox: &mut [u8; 256]) -> Reply
 // Adds bytes to the inbox of a line, all of them or none.
 pub(crate) fn fill(
     marks: &[u8; 6],
-    places: &mut [u16; 3],
+    places: &mut [u16; 4],
     content: &[u8; 128],
     inbox: &mut [u8; 256],
     bytes: &[u8],
@@ -84,6 +84,7 @@ pub(crate) fn fill(
     }
     known::inbox_long(*inbox);
     let length = places[0];
+    let frame = places[3];
     let span = span_of(places[1], places[2]);
     let from = span.from;
     let to = span.to;
@@ -93,6 +94,6 @@ pub(crate) fn fill(
     }
     lay(inbox, from, to, bytes);
     let waits = (count + bytes.len()) as u16;
-    *places = [length, 0, waits];
+    *places = [length, 0, waits, frame];
     Reply::Done
 }

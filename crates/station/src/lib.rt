@@ -3,7 +3,7 @@
 // It lies in four arrays that the caller lends, with a row for each line:
 //
 //  marks     opened, mode, phase, flaw, damaged, overlong
-//  places    the content's length, the first waiting byte, the count of waiting bytes
+//  places    the content's length, the first waiting byte, the count of waiting bytes, the number of the frame
 //  contents  the characters of the group
 //  inboxes   the waiting bytes
 //
@@ -25,14 +25,14 @@ ghost use Rattle.station.specs.Contracts.{Opens, Delivers, Serves};
 // A row for each line.
 pub type Marks = [[u8; 6]; 8];
 
-pub type Places = [[u16; 3]; 8];
+pub type Places = [[u16; 4]; 8];
 
 pub type Contents = [[u8; 128]; 8];
 
 pub type Inboxes = [[u8; 256]; 8];
 
 // The bytes that a lent sheet must have.
-pub const SMALLEST_SHEET: usize = 1080;
+pub const SMALLEST_SHEET: usize = 1096;
 
 // Why a call is refused.
 pub enum Refusal {
@@ -54,7 +54,7 @@ pub struct RoundTold {
     pub reply: Reply,
 }
 
-// Opens a line in a mode: its inbox is empty then, and the line outside of every frame.
+// Opens a line in a mode: its inbox is empty then, the line outside of every frame, and its frame number 0.
 pub fn open(
     marks: &mut Marks,
     places: &mut Places,

@@ -26,7 +26,7 @@ pub(crate) fn serve(
     inboxes: &Inboxes,
     sheet: &mut [u8],
 ) -> Served
-    requires { ⌜ 1080 ≤ length (now sheet) ⌝ }
+    requires { ⌜ 1096 ≤ length (now sheet) ⌝ }
     ensures { λ r. ⌜ ServesLines (stationIn (before marks places contents inboxes) .lines) (now (sheet .entry))
         (stationIn (after marks places contents inboxes) .lines) (r .counts) (r .offsets) (now (sheet .exit)) ⌝ }
 {
@@ -47,7 +47,7 @@ pub(crate) fn serve(
         offsets[2 * i] = (offset % 256) as u8;
         offsets[2 * i + 1] = (offset / 256 % 256) as u8;
         let content = contents[i];
-        at = sheet::put_entry(sheet, at, heard, content);
+        at = sheet::put_entry(sheet, at, heard, took.frame, content);
         i += 1;
     }
     Served { counts, offsets }

@@ -31,35 +31,55 @@ fn put_part(sheet: &mut [u8], at: usize, content: [u8; 128], part: Stretch) -> u
     at + part.length
 }
 
-// Puts the entry of what was heard on the sheet, if there was an answer; the place behind it.
-pub(crate) fn put_entry(sheet: &mut [u8], at: usize, heard: Heard, content: [u8; 128]) -> usize
+// Puts the entry of what was heard in the frame with this number on the sheet, if there was an answer; the place behind it.
+pub(crate) fn put_entry(
+    sheet: &mut [u8],
+    at: usize,
+    heard: Heard,
+    frame: u16,
+    content: [u8; 128],
+) -> usize
     requires { ⌜ Fits heard at (length (now sheet)) ⌝ }
-    ensures { λ r. ⌜ PutShort (now (sheet .entry)) at (entryHeard heard content) r (now (sheet .exit)) ⌝ }
+    ensures { λ r. ⌜ PutShort (now (sheet .entry)) at (entryHeard heard frame content) r (now (sheet .exit)) ⌝ }
 {
     let number = line::number_of(heard);
     let place = line::place_of(heard);
     match heard {
         Heard::Nothing => at,
-        Heard::Accepted(fields) => put_group(sheet, at, fields, content),
+        Heard::Accepted(fields) => put_group(sheet, at, fields, frame, content),
         Heard::Told(_) => {
-            let head = [number, 0, 0, place];
+            let head = [
+                number,
+                0,
+                0,
+                place,
+                (frame % 256) as u8,
+                (frame / 256 % 256) as u8,
+            ];
             copy::copy_in(sheet, at, &head);
-            at + 4
+            at + 6
         }
     }
 }
 
 // Puts the entry of an accepted group on the sheet; the place behind it.
-fn put_group(sheet: &mut [u8], at: usize, fields: Fields, content: [u8; 128]) -> usize
+fn put_group(sheet: &mut [u8], at: usize, fields: Fields, frame: u16, content: [u8; 128]) -> usize
     requires { ⌜ Fits (Heard.Accepted fields) at (length (now sheet)) ⌝ }
-    ensures { λ r. ⌜ Put (now (sheet .entry)) at (groupEntry fields content) r (now (sheet .exit)) ⌝ }
+    ensures { λ r. ⌜ Put (now (sheet .entry)) at (groupEntry fields frame content) r (now (sheet .exit)) ⌝ }
 {
     let label = fields.label;
     let stamp = fields.stamp;
     let data = fields.data;
-    let head = [1, label.length as u8, stamp.length as u8, data.length as u8];
+    let head = [
+        1,
+        label.length as u8,
+        stamp.length as u8,
+        data.length as u8,
+        (frame % 256) as u8,
+        (frame / 256 % 256) as u8,
+    ];
     copy::copy_in(sheet, at, &head);
-    let at_stamp = put_part(sheet, at + 4, content, label);
+    let at_stamp = put_part(sheet, at + 6, content, label);
     let at_data = put_part(sheet, at_stamp, content, stamp);
     put_part(sheet, at_data, content, data)
 }

@@ -8,10 +8,11 @@ ghost use Prim.Native.Nat.{_≤_};
 ghost use Rattle.station.specs.Memory.{rowsBefore, rowsAfter};
 ghost use Rattle.station.specs.Parts.{endOf, Turns};
 
-// What a turn tells: how many bytes it took, and what was heard at the last of them.
+// What a turn tells: how many bytes it took, what was heard at the last of them, and the number that the frame has then.
 pub struct Took {
     pub count: u8,
     pub heard: Heard,
+    pub frame: u16,
 }
 
 // The end of a turn's bytes: the end of those that wait, or 64 bytes on.
@@ -28,17 +29,18 @@ fn end_of(from: usize, to: usize) -> usize
 // Takes the oldest bytes of an open line, at most 64, up to one that gives an answer.
 pub(crate) fn turn(
     marks: &mut [u8; 6],
-    places: &mut [u16; 3],
+    places: &mut [u16; 4],
     content: &mut [u8; 128],
     inbox: &[u8; 256],
 ) -> Took
-    ensures { λ r. ⌜ Turns (rowsBefore marks places content inbox) (rowsAfter marks places content inbox) (r .count) (r .heard) ⌝ }
+    ensures { λ r. ⌜ Turns (rowsBefore marks places content inbox) (rowsAfter marks places content inbox) (r .count) (r .heard) (r .frame) ⌝ }
 {
     let opened = marks[0];
     if opened == 0 {
         return Took {
             count: 0,
             heard: Heard::Nothing,
+            frame: places[3],
         };
     }
     known::content_long(*content);
@@ -54,6 +56,7 @@ pub(crate) fn turn(
         damaged: marks[4],
         overlong: marks[5],
         length: places[0],
+        frame: places[3],
     };
     let all = &inbox[..];
     let taken = line::feed(state, content, &all[from..end]);
@@ -69,10 +72,11 @@ pub(crate) fn turn(
         then.damaged,
         then.overlong,
     ];
-    *places = [then.length, first, waits];
+    *places = [then.length, first, waits, then.frame];
     let heard = taken.heard;
     Took {
         count: count as u8,
         heard,
+        frame: then.frame,
     }
 }

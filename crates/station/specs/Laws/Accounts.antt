@@ -14,13 +14,13 @@ use Rattle.characters.specs.Answers.{pick}
 use Rattle.groups.specs.Modes.{modeOf, isKnown, isMode}
 use Rattle.groups.specs.Laws.Tests.{not-some}
 use Rattle.groups.specs.declared.Mode.{Mode}
-use Rattle.line.specs.Lines.{State, outside, after, answers}
-use Rattle.line.specs.Entries.{firstEntry}
+use Rattle.line.specs.Lines.{State}
+use Rattle.line.specs.Entries.{Framed, firstEntry}
+use Rattle.line.specs.FrameNumbers.{begun, framedAfter, framedAnswers}
 use Rattle.line.specs.ByBytes.{answersDue}
-use Rattle.line.specs.State.{lineOf}
 use Rattle.line.specs.Promises.{answers-by-bytes, count-by-bytes, opened-by-bytes}
-use Rattle.line.specs.Numbers.{shown}
-use Rattle.line.specs.Laws.Until.{until-first}
+use Rattle.line.specs.Numbers.{shownFramed}
+use Rattle.line.specs.Laws.FrameNumbers.{until-first}
 use Rattle.station.specs.Lines.{isOpen, waiting}
 use Rattle.station.specs.Stations.{allClosed, lineAt}
 use Rattle.station.specs.History.{
@@ -50,7 +50,7 @@ use Rattle.station.specs.OneLine.{Line, closed, opened, quota, turnTold,
 use Rattle.station.specs.Due.{turnBehind, turnDue}
 use Rattle.station.specs.Laws.Balance.{Balance, balance, quota-most}
 use Rattle.station.specs.Laws.Bound as bound
-use Rattle.station.specs.Laws.Views.{standsFor}
+use Rattle.station.specs.Laws.Views.{framedLine, standsFor}
 use Rattle.station.specs.Laws.Calls.{Made, made-closed, closed-at-first, alone, made-next, projected, made-run}
 use Rattle.station.specs.Records.{StationLine, Station}
 
@@ -63,12 +63,12 @@ balanced i cs h =
     rw (p .line-is, p .seen-is, closed-at-first i h) (balance closed never (events i cs) refl)
 
 -- the bytes that wait on an open line are those that wait in its record
-open-waits : (l : StationLine) (mode : ℕ) (s : State) (inbox : List ℕ) → standsFor l ≡ opened mode s inbox
+open-waits : (l : StationLine) (mode : ℕ) (s : Framed State) (inbox : List ℕ) → standsFor l ≡ opened mode s inbox
     → waiting l ≡ inbox
 unfolding standsFor pick
 open-waits l mode s inbox = go (isOpen l)
   where
-    go : (b : Bool) → pick b (opened (l .state .mode) (lineOf (l .state) (l .content)) (waiting l)) closed
+    go : (b : Bool) → pick b (opened (l .state .mode) (framedLine l) (waiting l)) closed
         ≡ opened mode s inbox
         → waiting l ≡ inbox
     go true e = cc
@@ -78,10 +78,10 @@ open-waits l mode s inbox = go (isOpen l)
 record Since (m : Mode) (l : StationLine) (a : Account) : Type 0 where
   mode : ℕ
   of-mode : modeOf mode ≡ some m
-  stands : standsFor l ≡ opened mode (after mode outside (bytesTaken a)) (bytesWaiting a)
+  stands : standsFor l ≡ opened mode (framedAfter mode begun (bytesTaken a)) (bytesWaiting a)
   waits : waiting l ≡ bytesWaiting a
   taken-most : a .taken ≤ length (a .accepted)
-  told : a .answered ≡ map shown (answers mode outside (bytesTaken a))
+  told : a .answered ≡ map shownFramed (framedAnswers mode begun (bytesTaken a))
 
 -- it is so where line and account balance
 since-balanced : (l : StationLine) (x : Line) (a : Account) (m : Mode) → standsFor l ≡ x → Balance x a
@@ -143,12 +143,12 @@ answers-right i cs m h e =
 
 -- a line by itself tells of a turn what is due by its bytes
 turn-behind : (mode : ℕ) (m : Mode) → modeOf mode ≡ some m → (before inbox : List ℕ)
-    → turnTold (opened mode (after mode outside before) inbox) ≡ turnBehind m before (take 64 inbox)
+    → turnTold (opened mode (framedAfter mode begun before) inbox) ≡ turnBehind m before (take 64 inbox)
 unfolding turnTold
 turn-behind mode m k before inbox =
-    let s = after mode outside before in
+    let s = framedAfter mode begun before in
     let oldest = take 64 inbox in
-    let first : firstEntry (map shown (answers mode s (take (quota mode s inbox) inbox))) ≡ firstEntry (answersDue m before oldest) =
+    let first : firstEntry (map shownFramed (framedAnswers mode s (take (quota mode s inbox) inbox))) ≡ firstEntry (answersDue m before oldest) =
     rw (← (take-take (quota mode s inbox) 64 inbox (quota-most mode s inbox .1)), until-first mode s oldest, answers-by-bytes mode m k before oldest) in
     rw (first, count-by-bytes mode m k before oldest)
 
@@ -215,7 +215,7 @@ taken-in-time i cs ds m p more h e w t b =
     let x = since i cs m h e in
     let before = bytesTaken (accountOf i cs) in
     let q = projected i (run allClosed cs) ds h (made-run allClosed cs made-closed) in
-    let k : length (answersDue m before p) ≡ length (answers (x .mode) (after (x .mode) outside before) p) =
-    rw (← (answers-by-bytes (x .mode) m (x .of-mode) before p)) (length-map (answers (x .mode) (after (x .mode) outside before) p) shown) in
+    let k : length (answersDue m before p) ≡ length (framedAnswers (x .mode) (framedAfter (x .mode) begun before) p) =
+    rw (← (answers-by-bytes (x .mode) m (x .of-mode) before p)) (length-map (framedAnswers (x .mode) (framedAfter (x .mode) begun before) p) shownFramed) in
     rw (q .seen-is, x .stands, w)
-    (bound.taken-in-time (x .mode) (after (x .mode) outside before) p more (events i ds) t (rw k at b))
+    (bound.taken-in-time (x .mode) (framedAfter (x .mode) begun before) p more (events i ds) t (rw k at b))

@@ -230,7 +230,7 @@ turn-at f [] i d a h = absurd (omega arith)
 turn-at f (l ∷ ls) zero d a h = refl
 turn-at f (l ∷ ls) (suc i) d a h = turn-at f ls i d a (omega arith)
 
--- the entries of the turns have at most 132 bytes each
+-- the entries of the turns have at most 134 bytes each
 pub turns-short : (ls : List StationLine) → Longs ls → T (every isShort (map tells (map turning ls)))
 turns-short [] hs = tt
 turns-short (l ∷ ls) (one-line h hs) =
@@ -265,7 +265,7 @@ made-next s (delivers j bytes) m = delivery-done j s bytes m .made
 made-next s (serves sheet) m =
     let ts = map turning (s .lines) in
     by-need (λ (a : Answer Refusal (List Turned)). Made (roundBy s sheet a .result .station))
-    (leb 1080 (length sheet)) SheetShort (given ts) (λ t. m) λ t.
+    (leb 1096 (length sheet)) SheetShort (given ts) (λ t. m) λ t.
     record {
       eight = length-map ts (λ (t : Turned). t .line) ∙ length-map (s .lines) turning ∙ m .eight;
       longs = longs-turned (s .lines) (m .longs);
@@ -302,15 +302,15 @@ unfolding next gets hears seenOf lineSight turns need pick
 round-alone i s sheet h m =
     let k : i < length (s .lines) = omega (arith, m .eight) in
     let v = turn-view (lineAt s i) (long-at (s .lines) i (zeroLine [] []) (m .longs) k) in
-    split 1080 (length sheet)
+    split 1096 (length sheet)
     (λ t.
-    let e = le-leb 1080 (length sheet) t in
+    let e = le-leb 1096 (length sheet) t in
     let own = turn-at (λ (t : Turned). t .line) (s .lines) i (zeroLine [] []) (zeroLine [] []) k in
     record {
       line-is = rw (e, next, own) (v .line-is);
       seen-is = rw e (ap (λ (t : Told). took t ∷ []) (sheet-told i s _ h m));
     })
-    (λ t. let e = lt-leb 1080 (length sheet) t in record { line-is = rw (e, next); seen-is = rw e })
+    (λ t. let e = lt-leb 1096 (length sheet) t in record { line-is = rw (e, next); seen-is = rw e })
 
 -- any call
 pub alone : (i : ℕ) (s : Station) (c : Call) → i < 8 → Made s → Alone i s c

@@ -116,7 +116,7 @@ numbers-due cs (delivers i bytes) =
     (delivery-number i (run allClosed cs) bytes h (made-run allClosed cs made-closed)
     ∙ delivery-due (standsFor (lineAt (run allClosed cs) i)) (accountOf i cs) bytes (balanced i cs h))
 numbers-due cs (serves sheet) =
-    split 1080 (length sheet) (λ h. rw (le-leb 1080 (length sheet) h)) λ h. rw (lt-leb 1080 (length sheet) h)
+    split 1096 (length sheet) (λ h. rw (le-leb 1096 (length sheet) h)) λ h. rw (lt-leb 1096 (length sheet) h)
 
 -- ---- A refused call
 

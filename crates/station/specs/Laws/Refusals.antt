@@ -35,7 +35,7 @@ pub delivering-no-line : (s : Station) (line : ℕ) (bytes : List ℕ) → 8 ≤
 unfolding delivering need
 delivering-no-line s line bytes h = rw (le-ltb line 8 h)
 
--- "18: sheet under 1,080 bytes"
+-- "18: sheet under 1,096 bytes"
 pub turns-no-sheet : (s : Station) (sheet : List ℕ) → length sheet < smallestSheet → turns s sheet ≡ refused SheetShort
 unfolding turns need
 turns-no-sheet s sheet h = rw (lt-leb smallestSheet (length sheet) h)

@@ -20,20 +20,20 @@ use Rattle.station.specs.Laws.Accounts.{turn-right}
 use Rattle.station.specs.Records.{Station}
 
 -- an accepted round is that of all turns
-round-accepted : (s : Station) (sheet : List ℕ) → 1080 ≤ length sheet
+round-accepted : (s : Station) (sheet : List ℕ) → 1096 ≤ length sheet
     → round s sheet ≡ afterTurns (map turning (s .lines)) sheet
 unfolding turns need
-round-accepted s sheet t = rw (le-leb 1080 (length sheet) t)
+round-accepted s sheet t = rw (le-leb 1096 (length sheet) t)
 
 -- it tells of eight turns
 told-eight : (s : Station) → Made s → length (toldOf s) ≡ 8
 told-eight s m = length-map (map turning (s .lines)) tells ∙ length-map (s .lines) turning ∙ m .eight
 
 -- the sheet of an accepted round
-round-sheet : (s : Station) (sheet : List ℕ) → Made s → 1080 ≤ length sheet
+round-sheet : (s : Station) (sheet : List ℕ) → Made s → 1096 ≤ length sheet
     → let left = round s sheet .sheet in
     let told = sheetOf (toldOf s) in
-    (length told ≤ 1080)
+    (length told ≤ 1096)
     × (left ≡ told ++ drop (length told) sheet)
     × (take 8 left ≡ round s sheet .result .counts)
     × ((i : ℕ) → i < 8 → readTurn left i ≡ getD (toldOf s) i idle)
@@ -74,7 +74,7 @@ eight-turns left (a ∷ b ∷ c ∷ d ∷ e ∷ f ∷ g ∷ h ∷ []) n r =
     )
 
 -- what a round tells of a line's turn is what is due to it
-pub turns-right : (i : ℕ) (cs : List Call) (sheet : List ℕ) → i < 8 → 1080 ≤ length sheet
+pub turns-right : (i : ℕ) (cs : List Call) (sheet : List ℕ) → i < 8 → 1096 ≤ length sheet
     → readTurn (gets (run allClosed cs) (serves sheet) .lent) i ≡ turnDue 64 (accountOf i cs)
 unfolding gets
 turns-right i cs sheet h t =
@@ -86,11 +86,11 @@ turns-right i cs sheet h t =
     ∙ turn-view (lineAt s i) (long-at (s .lines) i none (m .longs) k) .told-is
     ∙ turn-right i cs h
 
--- the sheet of any round is that of the turns that it tells, and fits 1,080 bytes; its first eight bytes are the counts
-pub sheet-right : (cs : List Call) (sheet : List ℕ) → 1080 ≤ length sheet
+-- the sheet of any round is that of the turns that it tells, and fits 1,096 bytes; its first eight bytes are the counts
+pub sheet-right : (cs : List Call) (sheet : List ℕ) → 1096 ≤ length sheet
     → let got = gets (run allClosed cs) (serves sheet) in
     let told = sheetOf (turnsRead (got .lent)) in
-    (length told ≤ 1080) × (got .lent ≡ told ++ drop (length told) sheet) × (got .counts ≡ take 8 (got .lent))
+    (length told ≤ 1096) × (got .lent ≡ told ++ drop (length told) sheet) × (got .counts ≡ take 8 (got .lent))
 unfolding gets
 sheet-right cs sheet t =
     let s = run allClosed cs in

@@ -1,30 +1,34 @@
--- The sheet of a round: it has at most 1,080 bytes, and it gives back what each line's turn was.
+-- The sheet of a round: it has at most 1,096 bytes, and it gives back what each line's turn was.
 use mathlib.Core.Path.{_≡_, refl, sym, ap, _∙_, subst}
 use mathlib.Core.Bool.{Bool, true, false, _&&_}
 use mathlib.Core.Option.{Option, none, some}
 use mathlib.Core.List.{List, [], _∷_, _++_, append-assoc}
-use Prim.Native.Nat.{ℕ, zero, suc, _+_, _*_, _≤_, _<_}
+use Prim.Native.Nat.{ℕ, zero, suc, _+_, _*_, _/_, _%_, _≤_, _<_}
 use native.Mathlib.Omega.{arith}
 use native.Mathlib.Nat.{add-zero, add-assoc}
-use lib.Dec.{T, eqb, leb, eqb→eq, leb→le, lit≤}
+use lib.Dec.{T, eqb, leb, ltb, eqb→eq, leb→le, ltb→lt, lit≤}
 use lib.ListN.{length, take, drop, getD, length-append, length-map, List·getD-map, List·getD-append}
 use lib.Seq.{take-at, drop-at, getD-append-add, take-append-seam, drop-append-seam}
 use mir.Facts.{and-yes}
 use borrow.Author.Tests.{ne-eqb, eqb-true}
 use Rattle.characters.specs.Answers.{pick, every, every-at}
-use Rattle.line.specs.Entries.{Entry}
-use Rattle.station.specs.Sheets.{idle, Told, entryBytes, entryOf, twoBytes, offsetOf, offsets, joined, counts, entries, sheetOf}
-use Rattle.station.specs.Reading.{readEntry, entryAt, readTurn}
+use Rattle.line.specs.Entries.{Entry, Framed, framed}
+use Rattle.station.specs.Sheets.{idle, Told, fourthByte, textOf, entryBytes, entryOf, twoBytes, offsetOf, offsets, joined, counts, entries, sheetOf}
+use Rattle.station.specs.Reading.{entryBy, readEntry, entryAt, readTurn}
 
--- an entry takes at most 132 bytes
+-- an entry takes at most 134 bytes
 abbrev pub isShort : Told → Bool
-isShort t = leb (length (entryOf (t .entry))) 132
+isShort t = leb (length (entryOf (t .entry))) 134
 
--- it is one that a round tells: 1 has no place, and all others have no text
-abbrev pub isPlain : Option Entry → Bool
-isPlain none = true
-isPlain (some e) =
+-- 1 has no place, and all others have no text
+abbrev hasOne : Entry → Bool
+hasOne e =
     pick (eqb (e .number) 1) (eqb (e .place) 0) (eqb (length (e .label)) 0 && eqb (length (e .stamp)) 0 && eqb (length (e .«data»)) 0)
+
+-- it is one that a round tells, and its frame number one of 16 bits
+abbrev pub isPlain : Option (Framed Entry) → Bool
+isPlain none = true
+isPlain (some e) = ltb (e .frame) 65536 && hasOne (e .what)
 
 -- ---- Its length
 
@@ -34,15 +38,15 @@ unfolding twoBytes
 offsets-length at [] = refl
 offsets-length at (t ∷ ts) = omega (arith, offsets-length (at + length (entryOf (t .entry))) ts)
 
--- short entries take at most 132 bytes each
-entries-length : (ts : List Told) → T (every isShort ts) → length (entries ts) ≤ 132 * length ts
+-- short entries take at most 134 bytes each
+entries-length : (ts : List Told) → T (every isShort ts) → length (entries ts) ≤ 134 * length ts
 entries-length [] t = lit≤ tt
 entries-length (x ∷ ts) t =
     let (short, more) = and-yes (isShort x) (every isShort ts) t in
-    simp length-append (omega (arith, leb→le (length (entryOf (x .entry))) 132 short, entries-length ts more))
+    simp length-append (omega (arith, leb→le (length (entryOf (x .entry))) 134 short, entries-length ts more))
 
--- a sheet of eight turns has at most 1,080 bytes
-pub sheet-fits : (ts : List Told) → length ts ≡ 8 → T (every isShort ts) → length (sheetOf ts) ≤ 1080
+-- a sheet of eight turns has at most 1,096 bytes
+pub sheet-fits : (ts : List Told) → length ts ≡ 8 → T (every isShort ts) → length (sheetOf ts) ≤ 1096
 unfolding sheetOf
 sheet-fits ts n t = simp (length-append, length-map) (omega (arith, offsets-length 24 ts, entries-length ts t))
 
@@ -100,19 +104,19 @@ offset-at at (t ∷ ts) (suc i) =
     rw (length-append own before, ← (add-assoc at (length own) (length before))) (offset-at (at + length own) ts i)
 
 -- an offset is no further on than the place of the entry
-offset-most : (e : Option Entry) (at : ℕ) → offsetOf e at ≤ at
+offset-most : (e : Option (Framed Entry)) (at : ℕ) → offsetOf e at ≤ at
 offset-most none at = omega arith
 offset-most (some e) at = omega arith
 
 -- no offset is past the places that short entries can take
 offset-small : (at : ℕ) (ts : List Told) (i : ℕ) → T (every isShort ts)
-    → getD (offsets at ts) i 0 ≤ at + 132 * length ts
+    → getD (offsets at ts) i 0 ≤ at + 134 * length ts
 offset-small at [] i t = omega arith
 offset-small at (x ∷ ts) zero t = omega (arith, offset-most (x .entry) at)
 offset-small at (x ∷ ts) (suc i) t =
     let (short, more) = and-yes (isShort x) (every isShort ts) t in
     let own = length (entryOf (x .entry)) in
-    omega (arith, leb→le own 132 short, offset-small (at + own) ts i more)
+    omega (arith, leb→le own 134 short, offset-small (at + own) ts i more)
 
 -- a number of 16 bits is given back by its two bytes
 two-bytes : (ns : List ℕ) (i : ℕ) → i < length ns → getD ns i 0 < 65536
@@ -132,18 +136,30 @@ no-text [] t = refl
 no-text (x ∷ d) t = let e = eqb→eq (suc (length d)) 0 t in absurd (omega arith)
 
 -- such an entry reads back, whatever follows
-read-entry : (e : Entry) (rest : List ℕ) → T (isPlain (some e)) → readEntry (entryBytes e ++ rest) ≡ some e
-unfolding readEntry entryBytes pick
-read-entry e rest t = go (eqb (e .number) 1) refl
+read-entry : (f : Framed Entry) (rest : List ℕ) → T (isPlain (some f)) → readEntry (entryBytes f ++ rest) ≡ some f
+unfolding readEntry entryBytes twoBytes pick
+read-entry f rest t = rw number (go (eqb (e .number) 1) refl)
   where
-    go : (one : Bool) → eqb (e .number) 1 ≡ one → readEntry (entryBytes e ++ rest) ≡ some e
+    e : Entry
+    e = f .what
+
+    one-of : T (hasOne e)
+    one-of = and-yes (ltb (f .frame) 65536) (hasOne e) t .1
+
+    number : f .frame % 256 + 256 * (f .frame / 256 % 256) ≡ f .frame
+    number = omega (arith, ltb→lt (f .frame) 65536 (and-yes (ltb (f .frame) 65536) (hasOne e) t .0))
+
+    read : List ℕ → Entry
+    read text = entryBy (e .number) (length (e .label)) (length (e .stamp)) (fourthByte e) text
+
+    go : (one : Bool) → eqb (e .number) 1 ≡ one → some (framed (f .frame) (read (textOf e ++ rest))) ≡ some f
     go true q =
-        let u : T (eqb (e .place) 0) = rw q at t in
+        let u : T (eqb (e .place) 0) = rw q at one-of in
         let n = eqb-true (e .number) 1 q in
         let p = eqb→eq (e .place) 0 u in
         rw (q, n, p) (simp (append-assoc, take-append-seam, drop-append-seam))
     go false q =
-        let u : T (eqb (length (e .label)) 0 && eqb (length (e .stamp)) 0 && eqb (length (e .«data»)) 0) = rw q at t in
+        let u : T (eqb (length (e .label)) 0 && eqb (length (e .stamp)) 0 && eqb (length (e .«data»)) 0) = rw q at one-of in
         let (v, d) = and-yes (eqb (length (e .label)) 0 && eqb (length (e .stamp)) 0) (eqb (length (e .«data»)) 0) u in
         let (l, s) = and-yes (eqb (length (e .label)) 0) (eqb (length (e .stamp)) 0) v in
         rw (q, no-text (e .label) l, no-text (e .stamp) s, no-text (e .«data») d)
@@ -191,11 +207,11 @@ module _ (ts : List Told) (n : length ts ≡ 8) (rest : List ℕ) (i : ℕ) (h :
       place : ℕ
       place = 24 + length (entries (take i ts))
 
-      go : (e : Option Entry) → getD ts i idle .entry ≡ e → entryAt (sheetOf ts ++ rest) (offsetOf e place) ≡ e
+      go : (e : Option (Framed Entry)) → getD ts i idle .entry ≡ e → entryAt (sheetOf ts ++ rest) (offsetOf e place) ≡ e
       go none q = refl
       go (some e) q =
           rw (ne-eqb place 0 (λ z. omega arith), entry-place ts n rest i h, q)
-          (read-entry e (entries (drop (suc i) ts) ++ rest) (subst (λ (o : Option Entry). T (isPlain o)) q plain))
+          (read-entry e (entries (drop (suc i) ts) ++ rest) (subst (λ (o : Option (Framed Entry)). T (isPlain o)) q plain))
 
 -- a sheet gives back what each line's turn was, whatever bytes follow it
 pub reads-back : (ts : List Told) → length ts ≡ 8 → T (every isShort ts) → T (every (λ (x : Told). isPlain (x .entry)) ts)

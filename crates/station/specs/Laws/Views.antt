@@ -3,20 +3,23 @@ use mathlib.Core.Path.{_≡_, refl, sym, ap, _∙_}
 use mathlib.Core.Bool.{Bool, true, false}
 use mathlib.Core.Option.{Option, none, some}
 use mathlib.Core.List.{List, [], _∷_, _++_, map}
-use Prim.Native.Nat.{ℕ, zero, suc, _+_, _-_, _≤_}
+use Prim.Native.Nat.{ℕ, zero, suc, _+_, _-_, _%_, _≤_, _<_}
 use native.Mathlib.Omega.{arith}
-use lib.Dec.{T, ltb, leb, ltb→lt, nltb→le, leb→le, le→leb}
+use lib.Dec.{T, ltb, leb, ltb→lt, lt→ltb, nltb→le, leb→le, le→leb}
 use lib.ListN.{length, take, drop, length-append, length-take, length-drop, drop-of-length-le}
 use lib.Seq.{take-nil, take-take, drop-drop, take-append-seam}
+use mir.Facts.{yes-and}
 use Rattle.characters.specs.Answers.{Answer, refused, given, by-need, is-true, is-false, pick, by-pick}
 use Rattle.groups.specs.Modes.{isMode}
-use Rattle.line.specs.Lines.{LineAnswer, State, listed, outside}
-use Rattle.line.specs.State.{lineOf, stateOf, openingOf}
+use Rattle.line.specs.Lines.{LineAnswer, State, listed}
+use Rattle.line.specs.FrameNumbers.{begun, frameAfter}
+use Rattle.line.specs.State.{lineOf, frameOf, stateOf, openingOf}
 use Rattle.line.specs.Steps.{heardAnswer, fed}
 use Rattle.line.specs.Views.{FieldsInside, opened-view, fed-view, until-most}
-use Rattle.line.specs.Entries.{firstEntry}
-use Rattle.line.specs.Numbers.{shown, shownIf}
+use Rattle.line.specs.Entries.{Entry, Framed, framed, framedIf, firstEntry}
+use Rattle.line.specs.Numbers.{shownIf, shownFramed}
 use Rattle.line.specs.Laws.Openings.{opening-known, opening-unknown}
+use Rattle.line.specs.Laws.FrameNumbers.{after-remainder, until-number}
 use Rattle.line.specs.Laws.Heard.{heard-nothing, heard-told, heard-accepted}
 use Rattle.line.specs.Laws.GroupsByBytes.{notice-number}
 use Rattle.line.specs.declared.Opening.{Opening}
@@ -26,7 +29,7 @@ use Rattle.line.specs.declared.Heard.the-variants.{Nothing, Accepted, Told}
 use Rattle.line.specs.declared.rules.Phase.the-variants.{Outside}
 use Rattle.station.specs.Numbers.{numberOfRefusal}
 use Rattle.station.specs.Lines.{isOpen, waiting, openedAs, added, filling, oldest, turned, mostInTurn, turning}
-use Rattle.station.specs.Sheets.{entryBytes, entryOf}
+use Rattle.station.specs.Sheets.{twoBytes, entryBytes, entryOf}
 use Rattle.station.specs.Rounds.{tells}
 use Rattle.station.specs.History.{Event, openingIn, deliveryOf, turn}
 use Rattle.station.specs.OneLine.{Line, closed, opened, quota, lineAfter, turnTold, deliveryNumber}
@@ -35,9 +38,13 @@ use Rattle.station.specs.Records.{StationLine, Turned}
 use Rattle.station.specs.declared.Refusal.{Refusal}
 use Rattle.station.specs.declared.Refusal.the-variants.{NoRoom, LineClosed, ModeUnknown}
 
+-- the line that its numbers stand for, with the number of its frame
+abbrev pub framedLine : StationLine → Framed State
+framedLine l = framed (frameOf (l .state)) (lineOf (l .state) (l .content))
+
 -- the line that a record of the code stands for
 unfoldable pub standsFor : StationLine → Line
-standsFor l = pick (isOpen l) (opened (l .state .mode) (lineOf (l .state) (l .content)) (waiting l)) closed
+standsFor l = pick (isOpen l) (opened (l .state .mode) (framedLine l) (waiting l)) closed
 
 -- the arrays of a line have their lengths
 pub record Long (l : StationLine) : Type 0 where
@@ -109,20 +116,21 @@ pub record TurnView (l : StationLine) (t : Turned) : Type 0 where
   pub inside : FieldsInside (t .heard)
 
 -- a turn takes at most 64 bytes, and no more than there are
-quota-most : (mode : ℕ) (s : State) (bs : List ℕ) → (quota mode s bs ≤ mostInTurn) × (quota mode s bs ≤ length bs)
+quota-most : (mode : ℕ) (s : Framed State) (bs : List ℕ) → (quota mode s bs ≤ mostInTurn) × (quota mode s bs ≤ length bs)
 quota-most mode s bs =
-    let k = until-most mode s (take mostInTurn bs) in
+    let k = until-most mode (s .what) (take mostInTurn bs) in
     let n = length-take mostInTurn bs in
     (omega arith, omega arith)
 
 -- what it takes of the oldest 64 it takes of all
-quota-take : (mode : ℕ) (s : State) (bs : List ℕ) → take (quota mode s bs) (take mostInTurn bs) ≡ take (quota mode s bs) bs
+quota-take : (mode : ℕ) (s : Framed State) (bs : List ℕ) → take (quota mode s bs) (take mostInTurn bs) ≡ take (quota mode s bs) bs
 quota-take mode s bs = take-take (quota mode s bs) mostInTurn bs (quota-most mode s bs .0)
 
--- an answer is shown as the first of its list
-first-listed : (o : Option LineAnswer) → shownIf o ≡ firstEntry (map shown (listed o))
-first-listed none = refl
-first-listed (some a) = refl
+-- an answer with its number is shown as the first of its list
+first-listed : (n : ℕ) (o : Option LineAnswer)
+    → framedIf n (shownIf o) ≡ firstEntry (map shownFramed (map (framed n) (listed o)))
+first-listed n none = refl
+first-listed n (some a) = refl
 
 -- the turn of a closed line
 closed-turn : (l : StationLine) → Long l → isOpen l ≡ false
@@ -145,18 +153,22 @@ open-turn : (l : StationLine) → Long l → isOpen l ≡ true
 unfolding standsFor lineAfter turnTold waiting pick
 open-turn l h e =
     let mode = l .state .mode in
-    let s = lineOf (l .state) (l .content) in
+    let s = framedLine l in
     let f = fed 0 (l .state) (l .content) (take mostInTurn (waiting l)) in
     let v = fed-view 0 (l .state) (l .content) (take mostInTurn (waiting l)) (h .content) in
     let k : f .result .count ≡ quota mode s (waiting l) = omega (arith, v .count-is) in
     let most = quota-most mode s (waiting l) in
     let same = quota-take mode s (waiting l) in
     let rest = rest-waits l (f .result .count) (h .inbox) in
-    let first = first-listed (heardAnswer (f .result .heard) (f .content)) in
+    let first = first-listed (frameOf (f .result .line)) (heardAnswer (f .result .heard) (f .content)) in
+    let taken = take (quota mode s (waiting l)) (take mostInTurn (waiting l)) in
+    let frame : frameOf (f .result .line) ≡ frameAfter (s .frame) taken =
+    ap (λ (n : ℕ). n % 65536) (v .frame-is) ∙ after-remainder (l .state .frame) taken in
+    let told = until-number mode s (take mostInTurn (waiting l)) in
     record {
       long = record { content = v .long; inbox = h .inbox };
-      line-is = rw (e, v .same-mode, v .line-is, rest, k, same);
-      told-is = rw (first, v .answers-are, e, k, same);
+      line-is = rw (e, v .same-mode, v .line-is, frame, rest, k, same);
+      told-is = rw (first, v .answers-are, frame, ← told, e, k, same);
       count-most = omega arith;
       count-waits = omega arith;
       waits = rest;
@@ -169,34 +181,35 @@ unfolding turning
 turn-view l h =
     by-pick (TurnView l) (isOpen l) _ _ (λ t. open-turn l h (is-true t)) (λ t. closed-turn l h (is-false t))
 
--- the entry of what was heard has at most 132 bytes
-heard-short : (h : Heard) (content : List ℕ) → length content ≡ 128 → FieldsInside h
-    → length (entryOf (shownIf (heardAnswer h content))) ≤ 132
-unfolding entryBytes
-heard-short Nothing content e i = rw (heard-nothing content) (omega arith)
-heard-short (Told notice) content e i = rw (heard-told notice content) (omega arith)
-heard-short (Accepted fields) content e i =
+-- the entry of what was heard has at most 134 bytes
+heard-short : (h : Heard) (n : ℕ) (content : List ℕ) → length content ≡ 128 → FieldsInside h
+    → length (entryOf (framedIf n (shownIf (heardAnswer h content)))) ≤ 134
+unfolding entryBytes twoBytes
+heard-short Nothing n content e i = rw (heard-nothing content) (omega arith)
+heard-short (Told notice) n content e i = rw (heard-told notice content) (omega arith)
+heard-short (Accepted fields) n content e i =
     rw (heard-accepted fields content e i) (simp (length-append, length-take) (omega (arith, i .all-short)))
 
 -- so has the entry of a turn
 pub turn-short : (l : StationLine) → Long l → T (isShort (tells (turning l)))
 turn-short l h =
     let v = turn-view l h in
-    le→leb (length (entryOf (tells (turning l) .entry))) 132
-    (heard-short (turning l .heard) (turning l .line .content) (v .long .content) (v .inside))
+    le→leb (length (entryOf (tells (turning l) .entry))) 134
+    (heard-short (turning l .heard) (frameOf (turning l .line .state)) (turning l .line .content) (v .long .content) (v .inside))
 
--- what is heard has a place or a text, and not both
-heard-plain : (h : Heard) (content : List ℕ) → length content ≡ 128 → FieldsInside h
-    → T (isPlain (shownIf (heardAnswer h content)))
+-- what is heard has a place or a text, and not both, and a number of 16 bits
+heard-plain : (h : Heard) (n : ℕ) (content : List ℕ) → length content ≡ 128 → FieldsInside h → n < 65536
+    → T (isPlain (framedIf n (shownIf (heardAnswer h content))))
 unfolding pick
-heard-plain Nothing content e i = rw (heard-nothing content) tt
-heard-plain (Told notice) content e i =
-    rw (heard-told notice content, notice-number notice) tt
-heard-plain (Accepted fields) content e i = rw (heard-accepted fields content e i) tt
+heard-plain Nothing n content e i k = rw (heard-nothing content) tt
+heard-plain (Told notice) n content e i k =
+    rw (heard-told notice content, notice-number notice) (yes-and (ltb n 65536) true (lt→ltb n 65536 k) tt)
+heard-plain (Accepted fields) n content e i k =
+    rw (heard-accepted fields content e i) (yes-and (ltb n 65536) true (lt→ltb n 65536 k) tt)
 
 pub turn-plain : (l : StationLine) → Long l → T (isPlain (tells (turning l) .entry))
 turn-plain l h =
-    let v = turn-view l h in heard-plain (turning l .heard) (turning l .line .content) (v .long .content) (v .inside)
+    let v = turn-view l h in heard-plain (turning l .heard) (frameOf (turning l .line .state)) (turning l .line .content) (v .long .content) (v .inside) (omega arith)
 
 -- ---- A delivery and an opening
 
@@ -249,11 +262,11 @@ fill-view l bytes h =
       number-is = rw (e, f);
     }
 
--- a line that was just opened is outside, and no bytes wait
+-- a line that was just opened is outside, its frame number is 0, and no bytes wait
 pub opened-stands : (l : StationLine) (mode : ℕ)
-    → standsFor (openedAs l (stateOf mode Outside 0)) ≡ opened mode outside []
+    → standsFor (openedAs l (stateOf mode 0 Outside 0)) ≡ opened mode begun []
 unfolding standsFor waiting pick
-opened-stands l mode = rw (opened-view mode (l .content))
+opened-stands l mode = rw (opened-view mode 0 (l .content))
 
 -- the opening of a line, by what the line itself makes of the mode
 abbrev pub openedBy : StationLine → Opening → Answer Refusal StationLine

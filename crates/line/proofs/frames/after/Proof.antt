@@ -24,8 +24,11 @@ returns-2 : tie.Need-returns-2
 returns-2 c =
     let at-wire-byte = c .before in
     let start = at-wire-byte .before in
-    omega (arith, at-other (start .args .frame) (start .args .byte)
-    (not-stx (start .args .byte) _ (omega arith) (at-wire-byte .wire-byte .ensures) (c .if1 .left)))
+    omega (
+      arith,
+      at-other (start .args .frame) (start .args .byte)
+          (not-stx (start .args .byte) _ (omega arith) (at-wire-byte .wire-byte .ensures) (c .if1 .left)),
+    )
 
 pub after-spec : {M : Type 1} → statement M
 after-spec = tie.close (tie.spec wire-byte-requires next-requires returns returns-2)

@@ -13,10 +13,10 @@ abbrev line : tie.Start → StationLine
 line c = rowsBehind (c .args .marks) (c .args .places) (c .args .content) (c .args .inbox)
 
 waits : (c : tie.After-span-of)
-    → Waits (line (c .before .before .before .before .before .before .before .before .before)) (c .span-of .result .from)
+    → Waits (line (c .before .before .before .before .before .before .before .before .before .before)) (c .span-of .result .from)
     (c .span-of .result .to)
 waits c =
-    let at-inbox-long = c .before .before .before .before in
+    let at-inbox-long = c .before .before .before .before .before in
     c .span-of .ensures (line (at-inbox-long .before .before .before .before .before)) refl refl (at-inbox-long .inbox-long .ensures)
 
 element-copy-out-if1 : tie.Need-element-copy-out-if1
@@ -38,6 +38,9 @@ inbox-long-requires c κs = search needs
 
 element-copy-out-length : tie.Need-element-copy-out-length
 element-copy-out-length c = search needs
+
+element-copy-out-frame : tie.Need-element-copy-out-frame
+element-copy-out-frame c = search needs
 
 element-copy-out-span-of : tie.Need-element-copy-out-span-of
 element-copy-out-span-of c = search needs
@@ -63,7 +66,7 @@ returns-2 : tie.Need-returns-2
 returns-2 c =
     let at-if2 = c .before .before .before in
     let at-span-of = at-if2 .before in
-    let at-if1 = at-span-of .before .before .before .before .before .before in
+    let at-if1 = at-span-of .before .before .before .before .before .before .before in
     let start = at-if1 .before .before .before in
     let a = start .args in
     stopped (a .marks .now) (a .places .now) (a .content .now) (a .inbox .now) _ _ (a .bytes .now) _ _
@@ -90,7 +93,7 @@ returns-3 c =
     let at-lay = c .before in
     let at-if2 = at-lay .before .before in
     let at-span-of = at-if2 .before in
-    let at-if1 = at-span-of .before .before .before .before .before .before in
+    let at-if1 = at-span-of .before .before .before .before .before .before .before in
     let start = at-if1 .before .before .before in
     fill-done (line start) _ _ (waits at-span-of) (at-if1 .if1 .left) (start .args .bytes .now) (at-if2 .if2 .left) _
     (at-lay .lay .ensures)
@@ -104,6 +107,7 @@ fill-spec =
     returns
     inbox-long-requires
     element-copy-out-length
+    element-copy-out-frame
     element-copy-out-span-of
     element-copy-out-span-of-2
     span-of-requires

@@ -10,7 +10,7 @@ returns c =
     let good = c .good in
     record {
       marks = record { many = search needs; wide = wide-typed w8 6 (c .args .marks) _ (good .0 .1 .1) };
-      places = record { many = search needs; wide = wide-typed w16 3 (c .args .places) _ (good .1 .0 .1 .1) };
+      places = record { many = search needs; wide = wide-typed w16 4 (c .args .places) _ (good .1 .0 .1 .1) };
       contents = record { many = search needs; wide = wide-typed w8 128 (c .args .contents) _ (good .1 .1 .0 .1 .1) };
       inboxes = record { many = search needs; wide = wide-typed w8 256 (c .args .inboxes) _ (good .1 .1 .1 .0 .1 .1) };
     }

@@ -22,7 +22,7 @@ use Rattle.station.proofs.serve.serve.Tie as tie
 
 abbrev Inv-loop : tie.InvT-loop
 Inv-loop marks₀ places₀ contents₀ inboxes sheet₀ counts₀ offsets₀ at₀ i₀ marks places contents sheet counts offsets at i =
-    (i ≤ 8) × (at ≤ 24 + 132 * i) × (length sheet ≡ length sheet₀)
+    (i ≤ 8) × (at ≤ 24 + 134 * i) × (length sheet ≡ length sheet₀)
     × (servedAll (linesFrom marks₀ places₀ contents₀ inboxes) sheet₀
     ≡ servedFrom (8 - i) i (record {
       lines = linesFrom marks places contents inboxes;
@@ -176,7 +176,7 @@ loop-again-2 c =
       omega (arith, v .1, at-put-entry .put-entry .ensures .2),
       at-put-entry .put-entry .kept .0 ∙ v .2,
       rows-more _ (l .marks) (l .places) (l .contents) _ (l .counts) (l .offsets) (l .sheet) (l .at) i
-          (t .last .0) (t .last .1 .0) (t .last .1 .1 .0) _ _ o _ _
+          (t .last .0) (t .last .1 .0) (t .last .1 .1 .0) _ _ _ o _ _
           (omega (arith, h)) (v .4) (v .5) (v .6) (at-sized .sized .ensures .inboxes .many)
           (t .ensures) (at-offset-of .offset-of .ensures) (at-put-entry .put-entry .ensures .0) (at-put-entry .put-entry .ensures .1) (v .3),
       simp length-set (v .4),

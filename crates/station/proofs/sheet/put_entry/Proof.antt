@@ -30,6 +30,12 @@ put-group-requires c κs =
 enum-told-2 : tie.Need-enum-told-2
 enum-told-2 c = search needs
 
+cast-t14 : tie.Need-cast-t14
+cast-t14 c = search needs
+
+cast-t17 : tie.Need-cast-t17
+cast-t17 c = search needs
+
 slice-aggregate-copy-in : tie.Need-slice-aggregate-copy-in
 slice-aggregate-copy-in c = search needs
 
@@ -42,7 +48,7 @@ add-result c = search needs
 returns : tie.Need-returns
 returns c =
     let start = c .before .before .before .before .before in
-    put-nothing (start .args .sheet .now) (start .args .content) (start .args .at) _ (start .args .heard) (long start) (start .pre) (c .enum-told .given .1)
+    put-nothing (start .args .sheet .now) (start .args .content) (start .args .at) _ (start .args .heard) (start .args .frame) (long start) (start .pre) (c .enum-told .given .1)
 
 same-length : tie.Need-same-length
 same-length c = search needs
@@ -52,7 +58,7 @@ returns-2 c =
     let at-put-group = c .before .before in
     let at-heard = at-put-group .before .before .before in
     let start = at-heard .before .before .before .before .before in
-    put-accepted (start .args .sheet .now) (start .args .content) (start .args .at) _ (start .args .heard) (long start) (start .pre) _ _ _ (at-heard .heard .given .1) (at-put-group .put-group .ensures)
+    put-accepted (start .args .sheet .now) (start .args .content) (start .args .at) _ (start .args .heard) (start .args .frame) (long start) (start .pre) _ _ _ (at-heard .heard .given .1) (at-put-group .put-group .ensures)
 
 same-length-2 : tie.Need-same-length-2
 same-length-2 c = search needs
@@ -64,7 +70,7 @@ returns-3 c =
     let at-place-of = at-enum-told2 .before .before in
     let at-number-of = at-place-of .before in
     let start = at-number-of .before .before in
-    put-told (start .args .sheet .now) (start .args .content) (start .args .at) _ (start .args .heard) (long start) (start .pre) _ _ _ _ (at-enum-told2 .enum-told2 .given .1) (at-number-of .number-of .ensures)
+    put-told (start .args .sheet .now) (start .args .content) (start .args .at) _ (start .args .heard) (start .args .frame) (long start) (start .pre) _ _ _ _ (at-enum-told2 .enum-told2 .given .1) (at-number-of .number-of .ensures)
     (at-place-of .place-of .ensures)
     (at-copy-in .copy-in .ensures)
 
@@ -78,6 +84,8 @@ put-entry-spec =
     enum-known-heard
     put-group-requires
     enum-told-2
+    cast-t14
+    cast-t17
     slice-aggregate-copy-in
     copy-in-requires
     add-result

@@ -31,7 +31,7 @@ waits c = c .span-of .ensures (began c) refl refl (long c .inbox)
 
 -- the place behind `end_of`
 abbrev ended : tie.After-feed-arg → tie.After-end-of
-ended c = c .before .before .before .before .before .before .before .before
+ended c = c .before .before .before .before .before .before .before .before .before
 
 ends : (c : tie.After-end-of) → (c .before .span-of .result .from ≤ c .end-of .result) × (c .end-of .result ≤ c .before .span-of .result .to)
 ends c = end-places (began (c .before)) (long (c .before)) _ _ (waits (c .before)) _ (c .end-of .ensures)
@@ -51,10 +51,13 @@ known c =
 element-copy-out-opened : tie.Need-element-copy-out-opened
 element-copy-out-opened c = search needs
 
+element-copy-out-t25 : tie.Need-element-copy-out-t25
+element-copy-out-t25 c = search needs
+
 returns : tie.Need-returns
 returns c =
-    let start = c .before .before in
-    turn-closed (line start) (c .if1 .taken)
+    let start = c .before .before .before in
+    turn-closed (line start) (c .before .if1 .taken)
 
 content-long-requires : tie.Need-content-long-requires
 content-long-requires c κs = search needs
@@ -79,9 +82,6 @@ end-of-requires c κs =
 element-copy-out-t20 : tie.Need-element-copy-out-t20
 element-copy-out-t20 c = search needs
 
-element-copy-out-t36 : tie.Need-element-copy-out-t36
-element-copy-out-t36 c = search needs
-
 element-copy-out-t39 : tie.Need-element-copy-out-t39
 element-copy-out-t39 c = search needs
 
@@ -90,6 +90,12 @@ element-copy-out-t42 c = search needs
 
 element-copy-out-t45 : tie.Need-element-copy-out-t45
 element-copy-out-t45 c = search needs
+
+element-copy-out-t48 : tie.Need-element-copy-out-t48
+element-copy-out-t48 c = search needs
+
+element-copy-out-t34 : tie.Need-element-copy-out-t34
+element-copy-out-t34 c = search needs
 
 element-copy-out-t31 : tie.Need-element-copy-out-t31
 element-copy-out-t31 c = search needs
@@ -149,6 +155,7 @@ turn-spec =
     tie.close
     (tie.spec
     element-copy-out-opened
+    element-copy-out-t25
     returns
     content-long-requires
     inbox-long-requires
@@ -157,10 +164,11 @@ turn-spec =
     span-of-requires
     end-of-requires
     element-copy-out-t20
-    element-copy-out-t36
     element-copy-out-t39
     element-copy-out-t42
     element-copy-out-t45
+    element-copy-out-t48
+    element-copy-out-t34
     element-copy-out-t31
     sub-feed
     part-feed-start
