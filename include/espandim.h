@@ -30,6 +30,7 @@
  *    in to the same call. Label, stamp and data may overlap each other.
  *  - Nobody else touches what is lent while the call runs. The functions keep no state of their own and no pointer:
  *    two stations can be used at the same time.
+ *  - Header and archive are of the same version: an older header's station is too small for a newer archive.
  *  - A number of a line or a mode has 32 bits. C cuts a longer one before the call, and 4,294,967,296 arrives as 0: compare
  *    it before it is cut.
  *
@@ -65,7 +66,7 @@ extern "C" {
 #define ESPANDIM_LINES 8             /* lines 0 to 7 */
 #define ESPANDIM_INBOX 256           /* bytes that can wait on a line */
 #define ESPANDIM_MOST_CONTENT 128    /* characters of a group's content */
-#define ESPANDIM_SMALLEST_SHEET 1080 /* bytes of a sheet that can hold every round */
+#define ESPANDIM_SMALLEST_SHEET 1096 /* bytes of a sheet that can hold every round */
 #define ESPANDIM_MOST_WRITTEN 130    /* bytes, enough for every group: LF, content and CR; the longest, PJOURF+1, has 111 */
 
 /* The modes. Business mode is that of a PME-PMI meter (M-100 of document 02, the customer's later requests). */
@@ -118,7 +119,7 @@ static inline const char *espandim_words(uint32_t number) {
         "inbox or lent buffer too short for all",
         "line number 8 or more",
         "delivery to a closed line",
-        "sheet under 1,080 bytes",
+        "sheet under 1,096 bytes",
         "mode not 0 to 2",
         "capture empty or not begun by H, S or P",
         "not a number of the table",
@@ -126,19 +127,19 @@ static inline const char *espandim_words(uint32_t number) {
     return words[number <= 20 ? number : 21];
 }
 
-/* The station: four arrays, with a row for each line, 3,168 bytes in all and none of them padding. It is there so that a
+/* The station: four arrays, with a row for each line, 3,184 bytes in all and none of them padding. It is there so that a
  * caller can set a station's memory aside, and copy it as a value; only the functions below read and write what is in it.
  * Memory of zeros is the station with all lines closed: `struct espandim_station station = {0};` or memset. No bytes are
  * a wrong station: whatever lies in it, each call has one fixed answer and stays inside. What is promised of answers
  * is promised of a station that was zeros and that only the functions below have written. */
 struct espandim_station {
     uint8_t marks[ESPANDIM_LINES][6];   /* opened, mode, phase, flaw, damaged, overlong */
-    uint16_t places[ESPANDIM_LINES][3]; /* length of the content, first waiting byte, count of waiting bytes */
+    uint16_t places[ESPANDIM_LINES][4]; /* length of the content, first and count of the waiting bytes, frame number */
     uint8_t contents[ESPANDIM_LINES][ESPANDIM_MOST_CONTENT];
     uint8_t inboxes[ESPANDIM_LINES][ESPANDIM_INBOX];
 };
 
-ESPANDIM_ASSERT(sizeof(struct espandim_station) == ESPANDIM_LINES * (6 + 2 * 3 + ESPANDIM_MOST_CONTENT + ESPANDIM_INBOX),
+ESPANDIM_ASSERT(sizeof(struct espandim_station) == ESPANDIM_LINES * (6 + 2 * 4 + ESPANDIM_MOST_CONTENT + ESPANDIM_INBOX),
                 "a station has no padding");
 ESPANDIM_ASSERT(sizeof(size_t) == 8, "the archive is for a machine of 64 bits");
 
@@ -151,8 +152,8 @@ uint32_t espandim_rows_deliver(const uint8_t *marks, uint16_t *places, const uin
 uint32_t espandim_rows_round(uint8_t *marks, uint16_t *places, uint8_t *contents, const uint8_t *inboxes, uint8_t *sheet,
                              size_t length, uint8_t *counts);
 
-/* Opens a line in a mode, whether it was open or not: its inbox is empty then, and the line outside of every frame. So
- * open a line once: an opening before each delivery would drop what waits, and the frame that has begun.
+/* Opens a line in a mode, whether it was open or not: its inbox is empty then, the line outside of every frame, and its
+ * frame number 0. So open a line once: an opening before each delivery would drop what waits, and the frame that has begun.
  *   0   opened
  *   16  line is 8 or more
  *   19  mode is not 0 (historic), 1 (standard) or 2 (business)
@@ -178,13 +179,14 @@ static inline uint32_t espandim_deliver(struct espandim_station *station, uint32
  * the sheet:
  *   bytes 0 to 7    how many bytes the turn of each line took
  *   bytes 8 to 23   for each line where its entry starts, two bytes, low byte first; 0 where it has no answer
- *   from byte 24    the entries. For a group that is accepted: the number 1, the lengths of label, stamp and data, and
- *                   these three. For all else four bytes and no text: the number (2 to 14), two zeros, and a third one or,
- *                   for 12 and 14, where in the group's content it went wrong (espandim_place). In memory that no call made
- *                   a line's mode may be none: then its groups have the number 19
+ *   from byte 24    the entries, each of six bytes and, for a group that is accepted, its text. For such a group: the
+ *                   number 1; the lengths of label, stamp and data; the frame number, two bytes, low byte first; and label,
+ *                   stamp and data. For all else: the number (2 to 14); two zeros, and a third one or, for 12 and 14, where
+ *                   in the group's content it went wrong (espandim_place); and the frame number. In memory that no call
+ *                   made a line's mode may be none: then its groups have the number 19
  * The bytes behind the last entry stay as they were. The counts are set to how many bytes each turn took.
  *   0   done
- *   18  the sheet has under 1,080 bytes: no byte was taken and nothing changed, the sheet included; the counts are zeros
+ *   18  the sheet has under 1,096 bytes: no byte was taken and nothing changed, the sheet included; the counts are zeros
  *
  * How often: until all eight counts are 0 (espandim_idle), after each delivery. A turn ends at each answer, so a noisy line
  * may give one byte a round, and one round for each delivery leaves answers behind and fills the inbox. Where bytes wait
@@ -210,8 +212,12 @@ static inline int espandim_idle(const uint8_t counts[ESPANDIM_LINES]) {
 }
 
 /* The entry of a line on a sheet that a round has written, or that is zeros yet: entry[0] is the number. Where that is 1,
- * entry[1], entry[2] and entry[3] are the lengths of label, stamp and data, which follow from entry + 4 on. Every other entry
- * ends with entry[3], its place (espandim_place). A null pointer where the line has no answer, or is 8 or more.
+ * entry[1], entry[2] and entry[3] are the lengths of label, stamp and data, which follow from entry + 6 on (espandim_text).
+ * Every other entry has two zeros and its place there (espandim_place), and no text. In all of them entry[4] and entry[5]
+ * are the frame number (espandim_frame). A null pointer where the line has no answer, or is 8 or more.
+ *
+ * Before M-108 of document 02 an entry had no frame number, and the text followed from entry + 4 on. A caller that still
+ * reads there gets the two bytes of the number in front of the label, and not the last two of the data.
  *
  * A stamp is 13 characters, as they came: its season, then YYMMDDhhmmss. The season is H in winter and E in summer; h and e
  * are the same from a clock in degraded mode, which lost its time and was not set again yet, so that date and hour may be
@@ -227,6 +233,23 @@ static inline const uint8_t *espandim_entry(const uint8_t *sheet, uint32_t line)
  * `places` of a station has other things in it.) */
 static inline size_t espandim_place(const uint8_t *entry) {
     return entry[0] == ESPANDIM_ACCEPTED ? 0 : entry[3];
+}
+
+/* The frame number of an entry (M-108 of document 02): it tells which groups came together. A line's is 0 when it is opened,
+ * and one more at every STX, outside, in a frame or in a group; a damaged one is no STX. 65,535 is followed by 0. Entries 2,
+ * 3 and 4 have the number of the frame that they end, 5 has the new one, and all others that of the frame they came in.
+ *
+ * An entry comes only in a frame, so the first frame after an opening has 1, and the 65,536th is the first with 0. Of a line
+ * that was not opened in between, two entries with the same number are of one frame, unless 65,536 frames or more began
+ * between them. */
+static inline uint16_t espandim_frame(const uint8_t *entry) {
+    return (uint16_t)(entry[4] + 256u * entry[5]);
+}
+
+/* The text of an entry whose number is 1: label, stamp and data, one behind the other, as long as entry[1], entry[2] and
+ * entry[3] say. Other entries have no text: what stands there is none of theirs. */
+static inline const uint8_t *espandim_text(const uint8_t *entry) {
+    return entry + 6;
 }
 
 /* Judges the content of one group, what stands between LF and CR, in characters with no parity bit. The stretches are

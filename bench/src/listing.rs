@@ -13,9 +13,9 @@ pub fn of(capture: &[u8]) -> Vec<u8> {
     };
     let mut line = Line::new(mode);
     while !wire.is_empty() {
-        let (count, answer) = line.feed(wire);
-        if let Some(answer) = answer {
-            write_line(&mut text, &answer);
+        let (count, entry) = line.feed(wire);
+        if let Some(entry) = entry {
+            write_line(&mut text, &entry.answer);
         }
         wire = &wire[count..];
     }

@@ -5,7 +5,7 @@ use std::mem::size_of;
 use std::ptr::from_mut;
 
 type Marks = [[u8; 6]; 8];
-type Places = [[u16; 3]; 8];
+type Places = [[u16; 4]; 8];
 type Contents = [[u8; 128]; 8];
 type Inboxes = [[u8; 256]; 8];
 
@@ -78,13 +78,13 @@ pub struct Station {
 }
 
 // None of a station's bytes is padding.
-const _: () = assert!(size_of::<Station>() == 3168);
+const _: () = assert!(size_of::<Station>() == 3184);
 
 impl Default for Station {
     fn default() -> Station {
         Station {
             marks: [[0; 6]; 8],
-            places: [[0; 3]; 8],
+            places: [[0; 4]; 8],
             contents: [[0; 128]; 8],
             inboxes: [[0; 256]; 8],
         }

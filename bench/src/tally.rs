@@ -27,9 +27,9 @@ pub fn of(input: &mut impl Read) -> io::Result<String> {
         }
         let mut rest = &piece[..length];
         while !rest.is_empty() {
-            let (count, answer) = line.feed(rest);
-            if let Some(answer) = answer {
-                counts[usize::from(answer.number())] += 1;
+            let (count, entry) = line.feed(rest);
+            if let Some(entry) = entry {
+                counts[usize::from(entry.answer.number())] += 1;
             }
             rest = &rest[count..];
         }

@@ -2,10 +2,11 @@
  *
  * usage: eight FILE.. (the first is line 0, the second line 1, and so on)
  *
- * A capture is H (historic), S (standard) or P (business), then wire bytes. Each answer is a line of output: the number
- * of the line, the number of the answer and, where that is 1, label, stamp or `-`, and data, each after a space; where it is
- * 12 or 14, the place in the group's content where it went wrong. A capture that is empty, or begins otherwise, has the
- * answer 20. Exit status 0; 1 where a file can't be read; 2 for bad usage.
+ * A capture is H (historic), S (standard) or P (business), then wire bytes. Each answer is a line of output, as
+ * `4 frame 3: 5`: the number of the line; `frame`, the frame number, by which one sees what came together, and a colon; the
+ * number of the answer and, where that is 1, label, stamp or `-`, and data, each after a space; where it is 12 or 14, the
+ * place in the group's content where it went wrong. A capture that is empty, or begins otherwise, has the answer 20 and no
+ * frame: `6 20`. Exit status 0; 1 where a file can't be read; 2 for bad usage.
  *
  * It needs no header but espandim.h: what it uses of the C library is declared here, for a compiler that has none. */
 #include "espandim.h"
@@ -37,9 +38,9 @@ static void show(const void *bytes, size_t length) {
     }
 }
 
-/* A number below 1,000. */
+/* A number below 100,000: the largest is that of a frame. */
 static void show_number(uint32_t number) {
-    char digits[3];
+    char digits[5];
     size_t at = sizeof digits;
     do {
         digits[--at] = (char)('0' + number % 10);
@@ -51,7 +52,7 @@ static void show_number(uint32_t number) {
 /* The three fields of an accepted group: their lengths stand before them. An empty stamp is shown as `-`, or else the data
  * could be taken for it. */
 static void show_fields(const uint8_t *entry) {
-    const uint8_t *label = entry + 4, *stamp = label + entry[1], *data = stamp + entry[2];
+    const uint8_t *label = espandim_text(entry), *stamp = label + entry[1], *data = stamp + entry[2];
     show(" ", 1);
     show(label, entry[1]);
     show(" ", 1);
@@ -64,10 +65,13 @@ static void show_fields(const uint8_t *entry) {
     show(data, entry[3]);
 }
 
-/* An entry of a sheet: its number, and then the fields of an accepted group, or the place where a refused one went wrong. */
+/* An entry of a sheet: its frame, its number, and then the fields of an accepted group, or the place where a refused one
+ * went wrong. */
 static void show_entry(uint32_t line, const uint8_t *entry) {
     show_number(line);
-    show(" ", 1);
+    show(" frame ", 7);
+    show_number(espandim_frame(entry));
+    show(": ", 2);
     show_number(entry[0]);
     if (entry[0] == ESPANDIM_ACCEPTED) {
         show_fields(entry);

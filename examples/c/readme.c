@@ -9,7 +9,8 @@
  *   words     the words of the numbers 0 to 21, and of the largest
  *   helpers   nothing, where all is as espandim.h says; exit status 1 otherwise
  *
- * An answer is written as `eight.c` does. Exit status 2 for bad usage, or a file that can't be read or is no capture. */
+ * An answer is written as the listing has it, behind the number of its line. Exit status 2 for bad usage, or a file that
+ * can't be read or is no capture. */
 #include "shown.inc" /* README's lines */
 
 extern int open(const char *path, int flags, ...);
@@ -66,7 +67,7 @@ void answered(uint32_t line, const uint8_t *entry) {
     say(" ", 1);
     say_number(entry[0]);
     if (entry[0] == ESPANDIM_ACCEPTED) {
-        const char *label = (const char *)entry + 4, *stamp = label + entry[1], *data = stamp + entry[2];
+        const char *label = (const char *)espandim_text(entry), *stamp = label + entry[1], *data = stamp + entry[2];
         say(" ", 1);
         say(label, entry[1]);
         say(" ", 1);
@@ -272,6 +273,74 @@ static void places_told(void) {
     holds(espandim_place(refused) == 125, "the fourth byte is the place");
 }
 
+/* Hands one byte to line 2, and gives what it answers, or a null pointer. */
+static const uint8_t *answer_to(uint8_t byte, uint8_t *sheet) {
+    uint8_t counts[ESPANDIM_LINES];
+    holds(espandim_deliver(&station, 2, &byte, 1) == ESPANDIM_DONE, "one byte is not refused");
+    espandim_round(&station, sheet, ESPANDIM_SMALLEST_SHEET, counts);
+    return espandim_entry(sheet, 2);
+}
+
+/* Wire bytes, and for each of them the number and the frame number of its answer (M-108 of document 02), or zeros. */
+static const struct numbered {
+    uint8_t byte, number;
+    uint16_t frame;
+} numbered[] = {
+    {0x02, 0, 0},                          /* a damaged STX outside is none */
+    {0x82, 0, 0},                          /* the first frame */
+    {0x8D, 0, 0},                          /* a flaw */
+    {0x03, ESPANDIM_FRAME_FLAWED, 1},      /* the frame that it ends */
+    {0x82, 0, 0},                          /* the second */
+    {0x82, ESPANDIM_FRAME_RESTARTED, 3},   /* STX in a frame: the new number */
+    {0x0A, 0, 0},                          /* a group */
+    {0x02, 0, 0},                          /* a damaged STX in it is none */
+    {0x0A, ESPANDIM_GROUP_RESTARTED, 3},   /* the frame that it came in */
+    {0x8D, ESPANDIM_MISSHAPEN, 3},         /* a refused group too: it is empty */
+    {0x0A, 0, 0},                          /* a group again */
+    {0x82, ESPANDIM_FRAME_RESTARTED, 4},   /* STX in a group: the new number */
+    {0x02, 0, 0},                          /* a damaged STX in a frame is none, and a flaw */
+    {0x84, ESPANDIM_FRAME_INTERRUPTED, 4}, /* the frame that it ends */
+    {0x03, 0, 0},                          /* outside of every frame nothing is answered */
+    {0x82, 0, 0},                          /* the fifth */
+    {0x03, ESPANDIM_FRAME_SOUND, 5},
+};
+
+/* The frame number that an entry tells. */
+static void frames_told(void) {
+    static uint8_t sheet[ESPANDIM_SMALLEST_SHEET];
+    static const uint8_t told[] = {ESPANDIM_FRAME_SOUND, 0, 0, 0, 0x34, 0x12}, last[] = {14, 0, 0, 8, 0xFF, 0xFF};
+    const uint8_t *entry;
+    uint32_t frame;
+    size_t i;
+    holds(espandim_frame(told) == 0x1234 && espandim_frame(last) == 65535, "the low byte of the number is the first");
+    holds(espandim_text(told) == told + 6, "the text is behind the number");
+    again();
+    espandim_open(&station, 2, ESPANDIM_STANDARD);
+    for (i = 0; i < sizeof numbered / sizeof numbered[0]; i++) {
+        const struct numbered *one = &numbered[i];
+        entry = answer_to(one->byte, sheet);
+        holds(one->number == 0 ? entry == 0 : entry && entry[0] == one->number && espandim_frame(entry) == one->frame,
+              "the frame number of an entry");
+    }
+
+    /* A refused opening keeps the number, and every other sets it to 0. */
+    holds(espandim_open(&station, 2, 3) == ESPANDIM_MODE_UNKNOWN, "an opening in mode 3 is 19");
+    answer_to(0x82, sheet);
+    entry = answer_to(0x03, sheet);
+    holds(entry && espandim_frame(entry) == 6, "a refused opening keeps the frame number");
+    espandim_open(&station, 2, ESPANDIM_HISTORIC);
+    answer_to(0x82, sheet);
+    entry = answer_to(0x03, sheet);
+    holds(entry && espandim_frame(entry) == 1, "the first frame behind an opening has 1");
+
+    /* 65,535 is followed by 0. */
+    for (frame = 2; frame <= 65537; frame++) {
+        answer_to(0x82, sheet);
+        entry = answer_to(0x03, sheet);
+        holds(entry && espandim_frame(entry) == (frame < 65536 ? frame : frame - 65536), "each frame has one more");
+    }
+}
+
 /* What espandim.h says, beside the calls' own contracts. */
 static void helpers(void) {
     static uint8_t sheet[ESPANDIM_SMALLEST_SHEET], full[65536], counts[ESPANDIM_LINES];
@@ -292,7 +361,7 @@ static void helpers(void) {
         holds(espandim_entry(full, line) == full + 65535, "an offset of 65,535");
     }
 
-    /* An entry for each line, of 8 and 98 characters: most offsets need their high byte. */
+    /* An entry for each line, of 6 bytes and of 8 and 98 characters: most offsets need their high byte. */
     again();
     for (line = 0; line < ESPANDIM_LINES; line++) {
         for (i = 0; i < sizeof data; i++) {
@@ -304,15 +373,20 @@ static void helpers(void) {
         espandim_deliver(&station, line, group, 1);
         espandim_deliver(&station, line, written, count);
     }
-    espandim_round(&station, sheet, sizeof sheet, counts);
+    /* 24 bytes, and eight entries of 6 bytes and a content: a sheet with one byte less is refused, and all waits on. */
+    holds(ESPANDIM_SMALLEST_SHEET == 24 + ESPANDIM_LINES * (6 + ESPANDIM_MOST_CONTENT), "the smallest sheet");
+    holds(espandim_round(&station, sheet, sizeof sheet - 1, counts) == ESPANDIM_SHEET_SHORT, "1,095 bytes are 18");
+    holds(espandim_idle(counts), "and nothing was taken");
+    holds(espandim_round(&station, sheet, sizeof sheet, counts) == ESPANDIM_DONE, "1,096 bytes are not refused");
     holds(!espandim_idle(counts), "64 bytes of each were taken");
     espandim_round(&station, sheet, sizeof sheet, counts);
     for (line = 0; line < ESPANDIM_LINES; line++) {
         const uint8_t *entry = espandim_entry(sheet, line);
-        holds(entry == sheet + 24 + 110 * line, "entries of 110 bytes, from byte 24 on");
-        holds(entry && entry[0] == 1 && entry[1] == 8 && entry[2] == 0 && entry[3] == 98 && entry[4] == 'P' &&
-                  entry[109] == 'a' + line,
-              "the entry has label and data of the line");
+        holds(entry == sheet + 24 + 112 * line, "entries of 112 bytes, from byte 24 on");
+        holds(entry && entry[0] == 1 && entry[1] == 8 && entry[2] == 0 && entry[3] == 98 && entry[4] == 1 &&
+                  entry[5] == 0 && entry[6] == 'P' && entry[111] == 'a' + line,
+              "the entry has label and data of the line, and its frame number");
+        holds(entry && espandim_frame(entry) == 1 && espandim_text(entry) == entry + 6, "the first frame, and the text");
     }
     espandim_round(&station, sheet, sizeof sheet, counts);
     holds(espandim_idle(counts), "all of it was taken");
@@ -337,12 +411,14 @@ static void helpers(void) {
     }
     holds(espandim_deliver(&station, 6, stx, ESPANDIM_INBOX) == ESPANDIM_DONE, "256 bytes are not refused");
     for (rounds = 0; rounds < 1000; rounds++) {
+        const uint8_t *entry;
         espandim_round(&station, sheet, sizeof sheet, counts);
         if (espandim_idle(counts)) {
             break;
         }
-        holds(counts[6] == 1 && espandim_entry(sheet, 6) && espandim_entry(sheet, 6)[0] == ESPANDIM_FRAME_RESTARTED,
-              "one byte a round, and its answer");
+        entry = espandim_entry(sheet, 6);
+        holds(counts[6] == 1 && entry && entry[0] == ESPANDIM_FRAME_RESTARTED, "one byte a round, and its answer");
+        holds(entry && espandim_frame(entry) == 2 + rounds, "with the new frame number: the first STX had 1");
     }
     holds(rounds == 256, "256 rounds take something, and the next does not");
 
@@ -390,6 +466,7 @@ int main(int count, char **arguments) {
     } else if (is(what, "helpers") && files == 0) {
         helpers();
         places_told();
+        frames_told();
         length = wrong ? length : 0; /* what was answered on the way says nothing */
     } else {
         return 2;

@@ -6,21 +6,18 @@ use crate::drafts::Generator;
 use crate::hexadecimal::hexadecimal;
 use crate::histories::{log_bytes, Item};
 use crate::listing::listing;
-use crate::replay::{replies_to, text_of_replies, Call};
+use crate::long_history::{long_history, long_log, LongTally};
+use crate::programs::{run_program, RunningProgram};
+use crate::replay::{perform, replies_to, text_of_replies, Call, Reply};
+use crate::station::Station;
 use crate::tally::Tally;
-use std::io::{Read, Write};
-use std::os::unix::process::CommandExt;
-use std::process::{Command, Stdio};
+use std::io::Write;
 use std::sync::atomic::{AtomicBool, AtomicU64, Ordering};
-use std::sync::{mpsc, Mutex};
+use std::sync::Mutex;
 use std::time::{Duration, Instant};
 
 /// How many programs may run at one time.
 const MOST_AT_ONCE: usize = 2;
-/// A program that has not ended after this long is stopped.
-const LONGEST_RUN: Duration = Duration::from_secs(60);
-/// A program's output is read no further than this.
-const LONGEST_OUTPUT: u64 = 16 * 1024 * 1024;
 /// How often a program is run at most to cut an input down.
 const MOST_CUTTING_RUNS: usize = 2000;
 /// How long the cutting of an input goes on at most.
@@ -58,17 +55,20 @@ pub(crate) enum Task {
 /// Compares, prints what came of it, and tells whether all was the same.
 pub fn compare(settings: &Settings) -> bool {
     let (tally, found) = go_through(settings);
-    match found {
-        Some((task, difference)) => {
-            print_difference(settings, task, difference);
-            false
-        }
-        None => {
-            let (captures, histories) = settings.captures_and_histories();
-            print_quietly(&tally.report(captures, histories));
-            true
-        }
+    if let Some((task, difference)) = found {
+        print_difference(settings, task, difference);
+        return false;
     }
+    // It comes last, for what differs there is not cut down.
+    let (long_tally, parting) = go_through_long_history(settings.replay_program.as_deref());
+    if let Some(parting) = parting {
+        print_quietly(&parting);
+        return false;
+    }
+    let (captures, histories) = settings.captures_and_histories();
+    print_quietly(&tally.report(captures, histories));
+    print_quietly(&long_tally.report());
+    true
 }
 
 /// Makes the captures and histories, notes what is in them, and runs the
@@ -156,74 +156,71 @@ fn do_task(settings: &Settings, task: Task, tally: &mut Tally) -> Option<Differe
     }
 }
 
-/// What a program gave.
-struct ProgramRun {
-    output: Vec<u8>,
-    ended_well: bool,
-    ending: String,
-}
-
-/// Runs a command line through `sh -c` with the bytes on its standard input.
-fn run_program(command_line: &str, input: &[u8]) -> ProgramRun {
-    let spawned = Command::new("sh")
-        .arg("-c")
-        .arg(command_line)
-        .stdin(Stdio::piped())
-        .stdout(Stdio::piped())
-        .process_group(0)
-        .spawn();
-    let mut child = match spawned {
-        Ok(child) => child,
-        Err(problem) => {
-            return ProgramRun {
-                output: Vec::new(),
-                ended_well: false,
-                ending: format!("could not be started: {problem}"),
-            }
-        }
-    };
-    let mut child_input = child.stdin.take().expect("standard input is piped");
-    let mut child_output = child.stdout.take().expect("standard output is piped");
-    let input_copy = input.to_vec();
-    // A program may end before it has read everything, so a failed write is
-    // no fault.
-    std::thread::spawn(move || {
-        let _ = child_input.write_all(&input_copy);
-    });
-    let (sender, receiver) = mpsc::channel();
-    std::thread::spawn(move || {
-        let mut output = Vec::new();
-        let _ = child_output
-            .by_ref()
-            .take(LONGEST_OUTPUT)
-            .read_to_end(&mut output);
-        let _ = sender.send(output);
-    });
-    match receiver.recv_timeout(LONGEST_RUN) {
-        Ok(output) => match child.wait() {
-            Ok(status) => ProgramRun {
-                output,
-                ended_well: status.success(),
-                ending: status.to_string(),
-            },
-            Err(problem) => ProgramRun {
-                output,
-                ended_well: false,
-                ending: problem.to_string(),
-            },
-        },
-        Err(_) => {
-            // The child leads a process group of its own; end that group.
-            let group = format!("-{}", child.id());
-            let _ = Command::new("kill").args(["-KILL", "--", &group]).status();
-            let _ = child.wait();
-            ProgramRun {
-                output: Vec::new(),
-                ended_well: false,
-                ending: format!("stopped after {} seconds", LONGEST_RUN.as_secs()),
-            }
+/// Makes the long history and notes what is in it. A program that is given is
+/// compared line by line while it writes, for it writes 150 million characters;
+/// where they part, it is told how.
+pub(crate) fn go_through_long_history(program: Option<&str>) -> (LongTally, Option<String>) {
+    let calls = long_history();
+    let mut running = program.map(|program| RunningProgram::start(program, long_log(&calls)));
+    let mut tally = LongTally::default();
+    let mut station = Station::new();
+    for (index, call) in calls.iter().enumerate() {
+        let reply = perform(&mut station, call);
+        tally.note_call(call, &reply);
+        let Some(running) = running.as_mut() else {
+            continue;
+        };
+        let own = format!("{}\n", reply.text());
+        let other = running.next_line(own.len() + 1);
+        if other != own.as_bytes() {
+            let number = index + 1;
+            let ending = running.stop();
+            let parting = parting_of(number, call, &reply, &own, &other, &ending);
+            return (tally, Some(parting));
         }
     }
+    let Some(mut running) = running else {
+        return (tally, None);
+    };
+    let other = running.next_line(80);
+    if !other.is_empty() {
+        running.stop();
+        let parting = format!(
+            "difference on the long history: the program goes on after its last record with {:?}\n",
+            String::from_utf8_lossy(&other)
+        );
+        return (tally, Some(parting));
+    }
+    tally.compared = true;
+    tally.ended_well = running.ends_well();
+    (tally, None)
+}
+
+/// How the outputs part on a record of the long history, counted from 1.
+fn parting_of(
+    number: usize,
+    call: &Call,
+    reply: &Reply,
+    own: &str,
+    other: &[u8],
+    ending: &str,
+) -> String {
+    let mut report = format!(
+        "difference on the long history, whose log `second long-history` writes: record {number}\n\
+         record in hex: {}\n",
+        hexadecimal(&call.to_record())
+    );
+    for entry in reply.entries() {
+        report.push_str(&format!(
+            "entry of this reader at {}: line {}, answer {}, frame number {}\n",
+            entry.offset, entry.line, entry.number, entry.frame
+        ));
+    }
+    report.push_str(&format!(
+        "they part on {}the program: {ending}\n",
+        difference_of_lines(own, &String::from_utf8_lossy(other))
+    ));
+    report
 }
 
 /// Cuts a row down: leaves out chunks, large ones first, as long as what is
@@ -394,25 +391,29 @@ fn first_difference(own: &str, other: &str) -> String {
     let own_lines: Vec<&str> = own.split_inclusive('\n').collect();
     let other_lines: Vec<&str> = other.split_inclusive('\n').collect();
     let line = count_same(&own_lines, &other_lines);
-    let characters_of = |lines: &[&str]| -> Vec<char> {
-        lines
-            .get(line)
-            .map_or(Vec::new(), |one| one.chars().collect())
-    };
-    let own_line = characters_of(&own_lines);
-    let other_line = characters_of(&other_lines);
-    let place = count_same(&own_line, &other_line);
+    let text_of = |lines: &[&str]| lines.get(line).map_or(String::new(), |one| one.to_string());
+    format!(
+        "they part on line {}, {}",
+        line + 1,
+        difference_of_lines(&text_of(&own_lines), &text_of(&other_lines))
+    )
+}
+
+/// Points out where two lines of output part.
+fn difference_of_lines(own: &str, other: &str) -> String {
+    let own: Vec<char> = own.chars().collect();
+    let other: Vec<char> = other.chars().collect();
+    let place = count_same(&own, &other);
     let excerpt = |characters: &[char]| -> String {
         let begin = place.saturating_sub(30).min(characters.len());
         let end = (place + 30).min(characters.len());
         characters[begin..end].iter().collect()
     };
     format!(
-        "they part on line {}, character {}, near:\n  this reader: {:?}\n  the program: {:?}\n",
-        line + 1,
+        "character {}, near:\n  this reader: {:?}\n  the program: {:?}\n",
         place + 1,
-        excerpt(&own_line),
-        excerpt(&other_line)
+        excerpt(&own),
+        excerpt(&other)
     )
 }
 

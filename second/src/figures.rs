@@ -23,6 +23,7 @@ use crate::wire::{all_to_wire, character_of, is_sound, to_wire};
 use std::collections::BTreeSet;
 
 mod business;
+mod frames;
 mod labels;
 mod places;
 
@@ -613,9 +614,21 @@ fn read_sentence_by_sentence(mode: Mode, wire: &[u8]) -> Vec<PlacedAnswer> {
     };
     let mut state = State::Outside;
     let mut flaw = false;
+    // "Each line keeps a frame number, 0 when opened" (document 02, M-108).
+    let mut frame: u16 = 0;
     let mut answers = Vec::new();
     for (place, byte) in wire.iter().enumerate() {
-        let mut give = |answer| answers.push(PlacedAnswer { place, answer });
+        if character_of(*byte) == Some(0x02) {
+            // "One more at every STX, 65,535 followed by 0."
+            frame = frame.wrapping_add(1);
+        }
+        let mut give = |answer| {
+            answers.push(PlacedAnswer {
+                place,
+                frame,
+                answer,
+            })
+        };
         match (character_of(*byte), &mut state) {
             (Some(0x02), _) => {
                 if !matches!(state, State::Outside) {
@@ -751,7 +764,7 @@ fn order_of_refusals_when_delivering() {
 fn room_freed_by_a_round_is_used_again() {
     let mut station = open_station(3, 1);
     assert_eq!(station.deliver(3, &[0; 256]), Ok(()));
-    let mut sheet = [0xEE; 1080];
+    let mut sheet = [0xEE; 1096];
     for _ in 0..20 {
         assert_eq!(station.round(&mut sheet), Ok([0, 0, 0, 64, 0, 0, 0, 0]));
         assert_eq!(station.deliver(3, &[0; 65]), Err(Refusal::NoRoom));
@@ -760,26 +773,26 @@ fn room_freed_by_a_round_is_used_again() {
 }
 
 #[test]
-fn sheet_of_1080_and_1079() {
+fn sheet_of_1096_and_1095() {
     let mut station = open_station(0, 1);
     assert_eq!(station.deliver(0, &[0x82, 0x03]), Ok(()));
-    let mut short = [0xEE; 1079];
+    let mut short = [0xEE; 1095];
     let refused = station.round(&mut short);
     assert_eq!(refused, Err(Refusal::SheetTooShort));
     // "A refused round gives eight zero counts."
     assert_eq!(counts_of(&refused), [0; LINES]);
-    assert_eq!(short, [0xEE; 1079]);
+    assert_eq!(short, [0xEE; 1095]);
     assert_eq!(station.inbox_length(0), Some(2));
     assert_eq!(station.round(&mut []), Err(Refusal::SheetTooShort));
-    let mut sheet = [0xEE; 1080];
+    let mut sheet = [0xEE; 1096];
     assert_eq!(station.round(&mut sheet), Ok([2, 0, 0, 0, 0, 0, 0, 0]));
     assert_eq!(sheet[..8], [2, 0, 0, 0, 0, 0, 0, 0]);
     assert_eq!(
         sheet[8..24],
         [24, 0, 0, 0, 0, 0, 0, 0, 0, 0, 0, 0, 0, 0, 0, 0]
     );
-    assert_eq!(sheet[24..28], [2, 0, 0, 0]);
-    assert!(sheet[28..].iter().all(|one| *one == 0xEE));
+    assert_eq!(sheet[24..30], [2, 0, 0, 0, 1, 0]);
+    assert!(sheet[30..].iter().all(|one| *one == 0xEE));
     let mut long = [0xEE; 2000];
     assert_eq!(station.round(&mut long), Ok([0; LINES]));
     assert_eq!(long[..24], [0; 24]);
@@ -801,7 +814,7 @@ fn an_answer_on_the_63rd_64th_and_65th_byte() {
         bytes.extend([0x82, 0x03, 0x41]);
         assert_eq!(station.deliver(7, &bytes), Ok(()));
         for (count, offset) in rounds {
-            let mut sheet = [0xEE; 1080];
+            let mut sheet = [0xEE; 1096];
             let counts = station.round(&mut sheet).expect("long enough");
             assert_eq!(counts, [0, 0, 0, 0, 0, 0, 0, count]);
             assert_eq!(sheet[..8], counts);
@@ -818,7 +831,7 @@ fn line_7_and_8() {
     assert_eq!(station.open(8, 0), Err(Refusal::NoSuchLine));
     assert_eq!(station.deliver(7, &[0x82]), Ok(()));
     assert_eq!(station.deliver(8, &[0x82]), Err(Refusal::NoSuchLine));
-    let mut sheet = [0; 1080];
+    let mut sheet = [0; 1096];
     assert_eq!(station.round(&mut sheet), Ok([0, 0, 0, 0, 0, 0, 0, 1]));
 }
 
@@ -836,14 +849,14 @@ fn a_sheet_with_entries_of_several_lines() {
     let written = write(1, b"DPM1", b" 081225223518", b"07", &mut buffer).expect("right");
     stamped.extend(&buffer[..written]);
     assert_eq!(station.deliver(7, &stamped), Ok(()));
-    let mut sheet = [0xEE; 1081];
+    let mut sheet = [0xEE; 1097];
     let counts = station.round(&mut sheet).expect("long enough");
     assert_eq!(counts, [14, 0, 0, 0, 0, 2, 0, stamped.len() as u8]);
     let mut expected = counts.to_vec();
-    expected.extend([24, 0, 0, 0, 0, 0, 0, 0, 0, 0, 36, 0, 0, 0, 40, 0]);
-    expected.extend(b"\x01\x05\x00\x03URMS1230");
-    expected.extend(b"\x05\x00\x00\x00");
-    expected.extend(b"\x01\x04\x0D\x02DPM1 08122522351807");
+    expected.extend([24, 0, 0, 0, 0, 0, 0, 0, 0, 0, 38, 0, 0, 0, 44, 0]);
+    expected.extend(b"\x01\x05\x00\x03\x01\x00URMS1230");
+    expected.extend(b"\x05\x00\x00\x00\x02\x00");
+    expected.extend(b"\x01\x04\x0D\x02\x01\x00DPM1 08122522351807");
     assert_eq!(sheet[..expected.len()], expected[..]);
     assert!(sheet[expected.len()..].iter().all(|one| *one == 0xEE));
     // "Opening a line ... empties its inbox and puts it outside, whether it
@@ -872,7 +885,7 @@ fn rounds_give_the_answers_of_the_line_in_order() {
             if station.deliver(4, &left[..length]).is_ok() {
                 left = &left[length..];
             }
-            let mut sheet = [0; 1080];
+            let mut sheet = [0; 1096];
             let before = station.inbox_length(4).expect("open");
             let counts = station.round(&mut sheet).expect("long enough");
             let after = station.inbox_length(4).expect("open");
@@ -880,7 +893,8 @@ fn rounds_give_the_answers_of_the_line_in_order() {
             assert!(counts[4] > 0 || before == 0);
             taken += usize::from(counts[4]);
             if sheet[16] != 0 {
-                gathered.push((taken - 1, sheet[24], sheet[27]));
+                let frame = u16::from_le_bytes([sheet[28], sheet[29]]);
+                gathered.push((taken - 1, sheet[24], sheet[27], frame));
             }
         }
         let fourth_byte = |answer: &Answer| match answer {
@@ -888,11 +902,12 @@ fn rounds_give_the_answers_of_the_line_in_order() {
             Answer::GroupRefused(fault) => fault.place as u8,
             _ => 0,
         };
-        let expected: Vec<(usize, u8, u8)> = read_whole(mode, &wire)
+        let expected: Vec<(usize, u8, u8, u16)> = read_whole(mode, &wire)
             .iter()
             .map(|placed| {
                 let answer = &placed.answer;
-                (placed.place, answer.number(), fourth_byte(answer))
+                let fourth = fourth_byte(answer);
+                (placed.place, answer.number(), fourth, placed.frame)
             })
             .collect();
         assert_eq!(gathered, expected);
@@ -1036,7 +1051,7 @@ fn a_line_does_not_depend_on_the_others() {
                 Call::Open { line: one, .. } | Call::Deliver { line: one, .. } => {
                     usize::from(*one) == line
                 }
-                Call::Round { size, .. } => *size >= 1080,
+                Call::Round { size, .. } => *size >= 1096,
                 _ => false,
             };
             let alone: Vec<Item> = calls
@@ -1059,8 +1074,11 @@ fn a_line_does_not_depend_on_the_others() {
                                 .entries()
                                 .iter()
                                 .filter(|entry| entry.line == line)
+                                // "The number counting as part of the answer"
+                                // (document 02, M-108).
                                 .map(|entry| {
-                                    format!("{} {:?} {}", entry.number, entry.texts, entry.place)
+                                    let (number, texts) = (entry.number, &entry.texts);
+                                    format!("{number} {texts:?} {} {}", entry.place, entry.frame)
                                 })
                                 .collect();
                             format!("{} {own_entries:?}", counts[line])
@@ -1149,14 +1167,15 @@ fn m_101_small_seasons_are_shown_as_they_came() {
             // A sheet.
             let mut station = open_station(0, STANDARD);
             assert_eq!(station.deliver(0, &wire), Ok(()));
-            let mut sheet = [0xEE; 1080];
+            let mut sheet = [0xEE; 1096];
             let taken = wire.len() as u8 - 1;
             assert_eq!(station.round(&mut sheet), Ok([taken, 0, 0, 0, 0, 0, 0, 0]));
+            // The first frame (M-108).
             let entry = if six {
-                vec![12, 0, 0, place as u8]
+                vec![12, 0, 0, place as u8, 1, 0]
             } else {
-                let lengths = [1, label.len() as u8, 13, data.len() as u8];
-                [&lengths[..], &label, &stamp, &data].concat()
+                let head = [1, label.len() as u8, 13, data.len() as u8, 1, 0];
+                [&head[..], &label, &stamp, &data].concat()
             };
             let (shown, rest) = sheet[24..].split_at(entry.len());
             assert_eq!(shown, entry);
@@ -1199,7 +1218,7 @@ fn m_101_a_clock_loses_its_time_and_gets_it_back() {
     let mut capture = b"S".to_vec();
     let mut listed = String::new();
     let mut station = open_station(3, STANDARD);
-    for season in *b"HhHEeE" {
+    for (season, number) in (*b"HhHEeE").into_iter().zip(1..) {
         let frame = frame_with(&rules, season);
         capture.extend(&frame);
         let letter = char::from(season);
@@ -1210,14 +1229,15 @@ fn m_101_a_clock_loses_its_time_and_gets_it_back() {
              2\n"
         ));
         assert_eq!(station.deliver(3, &frame), Ok(()));
-        let mut sheet = [0xEE; 1080];
+        let mut sheet = [0xEE; 1096];
         for rule in rules {
             assert!(station.round(&mut sheet).is_ok());
             assert_eq!(sheet[24], 1);
-            assert_eq!(sheet[28 + rule.label.len()], season);
+            assert_eq!(sheet[28..30], [number, 0]);
+            assert_eq!(sheet[30 + rule.label.len()], season);
         }
         assert!(station.round(&mut sheet).is_ok());
-        assert_eq!(sheet[24..28], [2, 0, 0, 0]);
+        assert_eq!(sheet[24..30], [2, 0, 0, 0, number, 0]);
     }
     assert_eq!(listing(&capture), listed);
 }

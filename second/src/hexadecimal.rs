@@ -6,9 +6,11 @@ pub fn hexadecimal(bytes: &[u8]) -> String {
         return "-".to_string();
     }
     let digits = b"0123456789abcdef";
-    bytes
-        .iter()
-        .flat_map(|byte| [byte / 16, byte % 16])
-        .map(|digit| char::from(digits[usize::from(digit)]))
-        .collect()
+    let mut text = String::with_capacity(2 * bytes.len());
+    for byte in bytes {
+        for digit in [byte / 16, byte % 16] {
+            text.push(char::from(digits[usize::from(digit)]));
+        }
+    }
+    text
 }

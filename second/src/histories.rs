@@ -14,7 +14,8 @@ pub const CALLS_IN_HISTORY: usize = 100;
 
 const WRONG_LINES: [u8; 7] = [8, 9, 15, 16, 64, 128, 255];
 const WRONG_MODES: [u8; 11] = [3, 3, 3, 4, 16, 48, 50, 80, 128, 130, 255];
-const SHEET_SIZES: [usize; 10] = [0, 1, 23, 24, 1079, 1079, 1081, 2000, 1096, 4096];
+/// 1,080 was enough before M-108.
+const SHEET_SIZES: [usize; 10] = [0, 1, 23, 24, 1080, 1095, 1095, 1097, 2000, 4096];
 
 /// One item of a log: a call, or bytes that are no whole record.
 #[derive(Clone, Debug, PartialEq, Eq)]
@@ -578,7 +579,7 @@ impl Maker<'_> {
     fn round(&mut self) -> Call {
         let generator = &mut self.generator;
         let size = if generator.dice.percent(12) {
-            generator.note("call: sheet of another size than 1080");
+            generator.note("call: sheet of another size than 1096");
             *generator.dice.pick(&SHEET_SIZES)
         } else {
             SMALLEST_SHEET

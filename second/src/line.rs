@@ -1,8 +1,9 @@
-//! One line (document 01, "One line").
+//! One line (document 01, "One line"; document 02, M-108).
 //!
 //! The line is read as a whole: what has come so far is cut into frames, each
 //! frame into groups. Every answer belongs to one byte, and the answers up to
-//! a byte do not change when more bytes come.
+//! a byte do not change when more bytes come. No number is kept either: that of
+//! an answer is how many STX stand up to its byte.
 
 use crate::group::{judge, Judgement, LONGEST_CONTENT};
 use crate::numbers::{Answer, Refusal};
@@ -43,11 +44,31 @@ fn signal_of(wire_byte: u8) -> Signal {
     }
 }
 
-/// An answer and the place of the byte that gave it, counted from 0.
+/// "65,535 followed by 0" (document 02, M-108): so many frame numbers there are.
+const FRAME_NUMBERS: usize = 65_536;
+
+/// An answer, the place of the byte that gave it, counted from 0, and the frame
+/// number that it carries.
 #[derive(Clone, Debug, PartialEq, Eq)]
 pub struct PlacedAnswer {
     pub place: usize,
+    pub frame: u16,
     pub answer: Answer,
+}
+
+/// Document 02, M-108: "0 when opened, one more at every STX", so it is how many
+/// of these places lie at this one or before it. "An answer 5 carries the new
+/// number": the byte that gives it is an STX itself.
+fn frame_number(starts: &[usize], place: usize) -> u16 {
+    let begun = starts.partition_point(|start| *start <= place);
+    (begun % FRAME_NUMBERS) as u16
+}
+
+/// The places of every STX. A damaged one is no STX: "An unsound byte is never a
+/// control character."
+fn places_of_starts(wire: &[u8]) -> impl Iterator<Item = usize> + '_ {
+    let is_start = |one: &u8| signal_of(*one) == Signal::FrameControl(FrameControl::Start);
+    (0..wire.len()).filter(move |place| is_start(&wire[*place]))
 }
 
 /// A frame: what stands after an STX up to the next STX, ETX or EOT.
@@ -61,10 +82,22 @@ struct Frame {
 /// Reads all that came on a line since it was opened, and gives every answer
 /// in the order of the bytes.
 pub fn read_whole(mode: Mode, wire: &[u8]) -> Vec<PlacedAnswer> {
-    let signals: Vec<Signal> = wire.iter().map(|one| signal_of(*one)).collect();
+    let starts: Vec<usize> = places_of_starts(wire).collect();
+    read_from(mode, wire, 0, &starts)
+}
+
+/// Reads what came from this place on: the first of all, or that of an STX, where
+/// a frame begins whatever stood before it.
+fn read_from(mode: Mode, wire: &[u8], begin: usize, starts: &[usize]) -> Vec<PlacedAnswer> {
+    let signals: Vec<Signal> = wire[begin..].iter().map(|one| signal_of(*one)).collect();
     cut_into_frames(&signals)
         .iter()
         .flat_map(|frame| read_frame(mode, &signals, frame))
+        .map(|(offset, answer)| PlacedAnswer {
+            place: begin + offset,
+            frame: frame_number(starts, begin + offset),
+            answer,
+        })
         .collect()
 }
 
@@ -93,7 +126,8 @@ fn cut_into_frames(signals: &[Signal]) -> Vec<Frame> {
     frames
 }
 
-fn read_frame(mode: Mode, signals: &[Signal], frame: &Frame) -> Vec<PlacedAnswer> {
+/// The answers of a frame, each with its place among the signals.
+fn read_frame(mode: Mode, signals: &[Signal], frame: &Frame) -> Vec<(usize, Answer)> {
     let mut answers = Vec::new();
     // "STX: in a frame, flaw mark cleared."
     let mut flawed = false;
@@ -118,10 +152,7 @@ fn read_frame(mode: Mode, signals: &[Signal], frame: &Frame) -> Vec<PlacedAnswer
                 // "In a group: answer 6, flaw, a new empty group opens": the
                 // new one is opened by the same LF, in the next turn.
                 flawed = true;
-                answers.push(PlacedAnswer {
-                    place: end,
-                    answer: Answer::LineFeedInsideGroup,
-                });
+                answers.push((end, Answer::LineFeedInsideGroup));
                 place = end;
             }
             Some(end) => {
@@ -129,7 +160,7 @@ fn read_frame(mode: Mode, signals: &[Signal], frame: &Frame) -> Vec<PlacedAnswer
                 // (which sets the flaw); then in the frame."
                 let answer = judge_on_line(mode, &signals[begin..end]);
                 flawed |= matches!(answer, Answer::GroupRefused(_));
-                answers.push(PlacedAnswer { place: end, answer });
+                answers.push((end, answer));
                 place = end + 1;
             }
         }
@@ -145,10 +176,7 @@ fn read_frame(mode: Mode, signals: &[Signal], frame: &Frame) -> Vec<PlacedAnswer
             // "From a frame or group: 4."
             FrameControl::Interruption => Answer::FrameInterrupted,
         };
-        answers.push(PlacedAnswer {
-            place: frame.body.end,
-            answer,
-        });
+        answers.push((frame.body.end, answer));
     }
     answers
 }
@@ -198,7 +226,10 @@ fn text_of(characters: &[u8]) -> String {
 #[derive(Clone, Debug)]
 pub struct Line {
     mode: Mode,
+    /// All that came since the opening.
     wire: Vec<u8>,
+    /// The places of every STX in it.
+    starts: Vec<usize>,
     answers: Vec<PlacedAnswer>,
 }
 
@@ -208,15 +239,25 @@ impl Line {
         Line {
             mode,
             wire: Vec::new(),
+            starts: Vec::new(),
             answers: Vec::new(),
         }
     }
 
     /// Feeds bytes and gives the answers of these very bytes.
     pub fn feed(&mut self, bytes: &[u8]) -> Vec<PlacedAnswer> {
+        // All answers up to the last STX are given, its own included, so what
+        // came is cut anew only from there on.
+        let begin = self.starts.last().copied().unwrap_or(0);
+        let fed = self.wire.len();
         self.wire.extend_from_slice(bytes);
+        self.starts
+            .extend(places_of_starts(bytes).map(|place| fed + place));
         let before = self.answers.len();
-        self.answers = read_whole(self.mode, &self.wire);
+        self.answers
+            .truncate(self.answers.partition_point(|placed| placed.place <= begin));
+        let anew = read_from(self.mode, &self.wire, begin, &self.starts);
+        self.answers.extend(anew);
         self.answers[before..].to_vec()
     }
 
@@ -227,8 +268,10 @@ impl Line {
 
     /// The first answer given by a byte in the range, if there is one.
     pub fn first_answer_within(&self, range: Range<usize>) -> Option<&PlacedAnswer> {
-        self.answers
-            .iter()
-            .find(|placed| range.contains(&placed.place))
+        let earlier = self
+            .answers
+            .partition_point(|placed| placed.place < range.start);
+        let next = self.answers.get(earlier)?;
+        (next.place < range.end).then_some(next)
     }
 }

@@ -2,6 +2,7 @@
 
 use second::compare::{compare, Settings};
 use second::listing::listing;
+use second::long_history::{long_history, long_log};
 use second::replay::replay;
 use std::io::{Read, Write};
 use std::process::ExitCode;
@@ -9,6 +10,7 @@ use std::process::ExitCode;
 const USAGE: &str = "usage:
   second listing < capture
   second replay < log
+  second long-history > log
   second compare SEED COUNT [--listing PROGRAM] [--replay PROGRAM]
 ";
 
@@ -18,6 +20,7 @@ fn main() -> ExitCode {
     match words.as_slice() {
         ["listing"] => turn_input_into_output(listing),
         ["replay"] => turn_input_into_output(replay),
+        ["long-history"] => write_output(&long_log(&long_history())),
         ["compare", rest @ ..] => match read_settings(rest) {
             Some(settings) => match compare(&settings) {
                 true => ExitCode::SUCCESS,
@@ -40,10 +43,12 @@ fn turn_input_into_output(work: fn(&[u8]) -> String) -> ExitCode {
         eprintln!("standard input cannot be read: {problem}");
         return ExitCode::from(2);
     }
+    write_output(work(&input).as_bytes())
+}
+
+fn write_output(bytes: &[u8]) -> ExitCode {
     let mut output = std::io::stdout().lock();
-    let outcome = output
-        .write_all(work(&input).as_bytes())
-        .and_then(|()| output.flush());
+    let outcome = output.write_all(bytes).and_then(|()| output.flush());
     match outcome {
         Ok(()) => ExitCode::SUCCESS,
         Err(_) => ExitCode::from(2),

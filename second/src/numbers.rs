@@ -1,5 +1,6 @@
 //! The answers and refusals of document 01's table "Numbers", 13, 14, 19 and 20
-//! as document 02, M-100, changes them, and the place that M-104 adds.
+//! as document 02, M-100, changes them, and 18 as M-108 does, and the place that
+//! M-104 adds.
 
 /// A refusal, by the sentence of the table that gives it.
 #[derive(Clone, Copy, Debug, PartialEq, Eq, PartialOrd, Ord)]
@@ -29,7 +30,7 @@ pub enum Refusal {
     NoSuchLine,
     /// 17: "delivery to a closed line"
     LineClosed,
-    /// 18: "sheet under 1,080 bytes"
+    /// 18: "sheet under 1,096 bytes"
     SheetTooShort,
     /// 19: "a mode not 0 to 2"
     UnknownMode,

@@ -297,6 +297,8 @@ pub struct Entry {
     pub texts: [Vec<u8>; 3],
     /// The place of a refusal (document 02, M-104), else 0.
     pub place: usize,
+    /// The frame number (document 02, M-108).
+    pub frame: u16,
 }
 
 impl Entry {
@@ -308,7 +310,8 @@ impl Entry {
             1 => ([bytes[1], bytes[2], bytes[3]], 0),
             _ => ([0; 3], usize::from(bytes[3])),
         };
-        let mut left = &bytes[4..];
+        let frame = u16::from_le_bytes([bytes[4], bytes[5]]);
+        let mut left = &bytes[6..];
         let texts = lengths.map(|length| {
             let (text, rest) = left.split_at(usize::from(length));
             left = rest;
@@ -320,6 +323,7 @@ impl Entry {
             number,
             texts,
             place,
+            frame,
         }
     }
 }

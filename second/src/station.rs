@@ -1,6 +1,7 @@
-//! The station of eight lines (document 01, "The station"; document 02, M-104).
+//! The station of eight lines (document 01, "The station"; document 02, M-104
+//! and M-108).
 
-use crate::line::Line;
+use crate::line::{Line, PlacedAnswer};
 use crate::numbers::{Answer, Refusal};
 use crate::table::Mode;
 
@@ -10,8 +11,8 @@ pub const LINES: usize = 8;
 pub const INBOX_SIZE: usize = 256;
 /// "Takes its oldest bytes, at most 64."
 pub const LONGEST_TURN: usize = 64;
-/// "The lent sheet must have at least 1,080 bytes."
-pub const SMALLEST_SHEET: usize = 1080;
+/// Document 02, M-108: "The smallest sheet, and so 18, is now at 1,096 bytes."
+pub const SMALLEST_SHEET: usize = 1096;
 /// "Entries follow from byte 24."
 pub const FIRST_ENTRY: usize = 24;
 
@@ -30,12 +31,12 @@ impl OpenLine {
 
     /// One turn: "takes its oldest bytes, at most 64, and ends early after a
     /// byte that gives an answer". Gives the count of bytes taken.
-    fn take_turn(&mut self) -> (usize, Option<Answer>) {
+    fn take_turn(&mut self) -> (usize, Option<PlacedAnswer>) {
         let longest = self.inbox_length().min(LONGEST_TURN);
         let window = self.taken..self.taken + longest;
         let (count, answer) = match self.line.first_answer_within(window) {
             None => (longest, None),
-            Some(placed) => (placed.place + 1 - self.taken, Some(placed.answer.clone())),
+            Some(placed) => (placed.place + 1 - self.taken, Some(placed.clone())),
         };
         self.taken += count;
         (count, answer)
@@ -98,9 +99,9 @@ impl Station {
             let Some(open_line) = place else { continue };
             let (count, answer) = open_line.take_turn();
             counts[number] = count as u8;
-            if let Some(answer) = answer {
+            if let Some(placed) = answer {
                 offsets[number] = FIRST_ENTRY + entries.len();
-                entries.extend(entry_of(&answer));
+                entries.extend(entry_of(&placed));
             }
         }
         let mut written: Vec<u8> = counts.to_vec();
@@ -133,17 +134,19 @@ pub fn counts_of(round: &Result<[u8; LINES], Refusal>) -> [u8; LINES] {
 /// label, stamp and data. All but answer 1 have three zeros and no text."
 /// Document 02, M-104: "for a refusal the fourth byte holds this place instead
 /// of zero; the second and third stay zero". A content has at most 128
-/// characters, so a byte holds it.
-fn entry_of(answer: &Answer) -> Vec<u8> {
-    match answer {
-        Answer::GroupAccepted { label, stamp, data } => {
-            let texts = [label, stamp, data];
-            let mut entry = vec![answer.number()];
-            entry.extend(texts.iter().map(|text| text.len() as u8));
-            entry.extend(texts.iter().flat_map(|text| text.bytes()));
-            entry
-        }
-        Answer::GroupRefused(fault) => vec![answer.number(), 0, 0, fault.place as u8],
-        _ => vec![answer.number(), 0, 0, 0],
+/// characters, so a byte holds it. M-108: the frame number, "two bytes, low byte
+/// first, before the text".
+fn entry_of(placed: &PlacedAnswer) -> Vec<u8> {
+    let texts: [&str; 3] = match &placed.answer {
+        Answer::GroupAccepted { label, stamp, data } => [label, stamp, data],
+        _ => [""; 3],
+    };
+    let mut entry = vec![placed.answer.number()];
+    match &placed.answer {
+        Answer::GroupRefused(fault) => entry.extend([0, 0, fault.place as u8]),
+        _ => entry.extend(texts.map(|text| text.len() as u8)),
     }
+    entry.extend([(placed.frame % 256) as u8, (placed.frame / 256) as u8]);
+    entry.extend(texts.concat().bytes());
+    entry
 }

@@ -1,7 +1,9 @@
 //! What came up in the captures and histories that were made, and the closing
 //! report of it.
 
+use crate::followed::{follow_call, FollowedLine};
 use crate::formats::Format;
+use crate::frame_tally::{add_times, FrameTally};
 use crate::group::stamp_is_right;
 use crate::histories::CALLS_IN_HISTORY;
 use crate::line::{read_whole, PlacedAnswer};
@@ -117,6 +119,8 @@ pub struct Tally {
     wrong_at: BTreeMap<(Place, Mode, u8, usize), u64>,
     /// How often the data of a label that were refused as 14 went wrong so.
     ways: BTreeMap<(Place, Mode, Way, &'static str), u64>,
+    /// What came up of frame numbers.
+    pub frames: FrameTally,
     answers_on_64th_byte: u64,
     offsets_over_255: u64,
     largest_offset: usize,
@@ -341,6 +345,7 @@ impl Tally {
         add_times(&mut self.short_contents, other.short_contents);
         add_times(&mut self.wrong_at, other.wrong_at);
         add_times(&mut self.ways, other.ways);
+        self.frames.add(other.frames);
         self.add_deeds(&other.deeds);
     }
 
@@ -384,7 +389,9 @@ impl Tally {
         self.unreadable_logs += u64::from(log.unreadable.is_some());
         let mut lines: [FollowedLine; LINES] = Default::default();
         for (call, reply) in log.calls.iter().zip(replies) {
+            self.frames.note_opening(call, reply, &lines);
             follow_call(&mut lines, call, reply);
+            self.frames.note_round(reply, &lines);
             self.note_call(call, reply, &lines);
         }
     }
@@ -507,6 +514,7 @@ impl Tally {
         report.push_str(&self.report_of_short_contents());
         report.push_str(&self.report_of_wrong_places());
         report.push_str(&self.report_of_ways());
+        report.push_str(&self.frames.report());
         report.push_str(&format!(
             "turns with an answer on the 64th byte: {}\n\
              entries at an offset over 255: {}, largest offset: {}\n",
@@ -729,13 +737,6 @@ fn labels_with(season: Season) -> Vec<&'static str> {
         .collect()
 }
 
-/// Adds how often things came.
-fn add_times<Key: Ord>(sums: &mut BTreeMap<Key, u64>, more: BTreeMap<Key, u64>) {
-    for (key, times) in more {
-        *sums.entry(key).or_insert(0) += times;
-    }
-}
-
 /// What stands before the first separator of a content, if another one stands
 /// where the final one must.
 fn label_of_content(mode: Mode, content: &[u8]) -> Option<&[u8]> {
@@ -755,34 +756,4 @@ fn content_closed_at(wire: &[u8], place: usize) -> Vec<u8> {
         .iter()
         .filter_map(|one| character_of(*one))
         .collect()
-}
-
-/// The mode of a line, what was delivered to it since its opening, and how much
-/// of it the rounds took: a sheet does not show the group that it refuses.
-#[derive(Default)]
-struct FollowedLine {
-    mode: Option<Mode>,
-    delivered: Vec<u8>,
-    taken: usize,
-}
-
-/// Keeps the books of the lines through one more call.
-fn follow_call(lines: &mut [FollowedLine; LINES], call: &Call, reply: &Reply) {
-    match (call, reply) {
-        (Call::Open { line, mode }, Reply::Opened { number: 0 }) => {
-            lines[usize::from(*line)] = FollowedLine {
-                mode: Mode::from_number(*mode),
-                ..FollowedLine::default()
-            };
-        }
-        (Call::Deliver { line, bytes }, Reply::Delivered { number: 0 }) => {
-            lines[usize::from(*line)].delivered.extend(bytes);
-        }
-        (_, Reply::Rounded { counts, .. }) => {
-            for (line, count) in lines.iter_mut().zip(counts) {
-                line.taken += usize::from(*count);
-            }
-        }
-        _ => {}
-    }
 }

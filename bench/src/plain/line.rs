@@ -17,6 +17,8 @@ enum Phase {
 pub struct Line {
     mode: Mode,
     phase: Phase,
+    /// How often STX came, by the remainder of 65,536.
+    frame: u16,
     /// Only looked at in a frame, and cleared where one begins: outside it may be anything.
     flawed: bool,
     /// These three are only looked at in a group, and cleared where one begins.
@@ -24,6 +26,12 @@ pub struct Line {
     too_long: bool,
     length: usize,
     content: [u8; LONGEST_CONTENT],
+}
+
+/// An answer, and the number of the frame that it came in.
+pub struct Entry<'line> {
+    pub frame: u16,
+    pub answer: Answer<'line>,
 }
 
 /// What a byte told. The texts of an accepted group lie in the line's content until its next group begins.
@@ -62,6 +70,7 @@ impl Line {
         Line {
             mode,
             phase: Phase::Outside,
+            frame: 0,
             flawed: false,
             damaged: false,
             too_long: false,
@@ -70,8 +79,8 @@ impl Line {
         }
     }
 
-    /// Takes bytes from the front, up to one that gives an answer. Gives how many it took, and the answer.
-    pub fn feed(&mut self, bytes: &[u8]) -> (usize, Option<Answer<'_>>) {
+    /// Takes bytes from the front, up to one that gives an answer. Gives how many it took, and the answer with its frame.
+    pub fn feed(&mut self, bytes: &[u8]) -> (usize, Option<Entry<'_>>) {
         let mut count = 0;
         while count < bytes.len() {
             // Behind a group an LF comes as a rule, and behind the characters of a group its CR.
@@ -83,7 +92,8 @@ impl Line {
                 count += self.take_text(&bytes[count..]);
                 if bytes.get(count) == Some(&control::CARRIAGE_RETURN) {
                     self.phase = Phase::Frame;
-                    return (count + 1, Some(self.judge()));
+                    let (frame, answer) = (self.frame, self.judge());
+                    return (count + 1, Some(Entry { frame, answer }));
                 }
             }
             let Some(&byte) = bytes.get(count) else {
@@ -92,7 +102,10 @@ impl Line {
             count += 1;
             match self.step(byte) {
                 Step::Quiet => {}
-                Step::Told(notice) => return (count, Some(Answer::Told(notice))),
+                Step::Told(notice) => {
+                    let (frame, answer) = (self.frame, Answer::Told(notice));
+                    return (count, Some(Entry { frame, answer }));
+                }
             }
         }
         (count, None)
@@ -147,6 +160,7 @@ impl Line {
     fn start_frame(&mut self) -> Step {
         let was = self.phase;
         self.phase = Phase::Frame;
+        self.frame = self.frame.wrapping_add(1);
         self.flawed = false;
         match was {
             Phase::Outside => Step::Quiet,

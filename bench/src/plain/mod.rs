@@ -1,5 +1,6 @@
-//! The plain reader: document 01, and of document 02 the business meter (M-100), the small season letters (M-101) and the place
-//! of a refusal (M-104), as one writes them in Rust for speed, with state that is changed in place.
+//! The plain reader: document 01, and of document 02 the business meter (M-100), the small season letters (M-101), the place
+//! of a refusal (M-104) and the frame number (M-108), as one writes them in Rust for speed, with state that is changed in
+//! place.
 //!
 //! It is what the proved reader is measured against, so it is neither slowed down nor driven to the utmost: safe code,
 //! and no tables but those that the compiler makes of a `match`. What makes the proved reader quick it has too, where that

@@ -2,15 +2,17 @@
 //!
 //! The three calls are kept whole (`inline(never)`), since the proved station's are functions of a linked archive too.
 
-use super::line::{Answer, Line};
+use super::line::{Answer, Entry, Line};
 use super::table::Mode;
 
 pub const LINES: usize = 8;
 pub const INBOX: usize = 256;
 /// The bytes of the smallest sheet.
-pub const SHEET: usize = 1080;
+pub const SHEET: usize = 1096;
 const LONGEST_TURN: usize = 64;
 const FIRST_ENTRY: usize = 24;
+/// The bytes of an entry before its text.
+const HEAD: usize = 6;
 
 /// Document 01's numbers of calls.
 const DONE: u32 = 0;
@@ -101,13 +103,13 @@ impl Station {
                 continue;
             };
             let turn = inbox.from..inbox.to.min(inbox.from + LONGEST_TURN);
-            let (count, answer) = line.feed(&inbox.bytes[turn]);
+            let (count, entry) = line.feed(&inbox.bytes[turn]);
             inbox.from += count;
             counts[number] = count as u8;
-            if let Some(answer) = answer {
+            if let Some(entry) = entry {
                 let offset = (end as u16).to_le_bytes();
                 sheet[LINES + 2 * number..][..2].copy_from_slice(&offset);
-                end += write_entry(&mut sheet[end..], &answer);
+                end += write_entry(&mut sheet[end..], &entry);
             }
         }
         sheet[..LINES].copy_from_slice(counts);
@@ -116,15 +118,19 @@ impl Station {
 }
 
 /// Writes an entry at the start of what is left of the sheet. Gives its length.
-fn write_entry(sheet: &mut [u8], answer: &Answer) -> usize {
+fn write_entry(sheet: &mut [u8], entry: &Entry) -> usize {
+    let Entry { frame, answer } = entry;
+    let [low, high] = frame.to_le_bytes();
     let Answer::Accepted(fields) = answer else {
-        sheet[..4].copy_from_slice(&[answer.number(), 0, 0, answer.place()]);
-        return 4;
+        let head = [answer.number(), 0, 0, answer.place(), low, high];
+        sheet[..HEAD].copy_from_slice(&head);
+        return HEAD;
     };
     let (label, stamp, data) = (fields.label, fields.stamp, fields.data);
     let lengths = [label, stamp, data].map(|text| text.len() as u8);
-    sheet[..4].copy_from_slice(&[1, lengths[0], lengths[1], lengths[2]]);
-    let mut end = 4;
+    let head = [1, lengths[0], lengths[1], lengths[2], low, high];
+    sheet[..HEAD].copy_from_slice(&head);
+    let mut end = HEAD;
     for text in [label, stamp, data] {
         sheet[end..end + text.len()].copy_from_slice(text);
         end += text.len();

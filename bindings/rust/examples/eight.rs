@@ -3,10 +3,11 @@
 //!
 //! usage: eight FILE.. (the first is line 0, the second line 1, and so on)
 //!
-//! A capture is H (historic), S (standard) or P (business), then wire bytes. Each answer is a line of output: the number
-//! of the line, the number of the answer and, where that is 1, label, stamp or `-`, and data, each after a space; where it is
-//! 12 or 14, the place in the group's content where it went wrong. A capture that is empty, or begins otherwise, has the
-//! answer 20. Exit status 0; 1 where a file can't be read; 2 for bad usage.
+//! A capture is H (historic), S (standard) or P (business), then wire bytes. Each answer is a line of output, as
+//! `4 frame 3: 5`: the number of the line; `frame`, the frame number, by which one sees what came together, and a colon; the
+//! number of the answer and, where that is 1, label, stamp or `-`, and data, each after a space; where it is 12 or 14, the
+//! place in the group's content where it went wrong. A capture that is empty, or begins otherwise, has the answer 20 and no
+//! frame: `6 20`. Exit status 0; 1 where a file can't be read; 2 for bad usage.
 
 #![forbid(unsafe_code)]
 
@@ -92,8 +93,8 @@ fn print_answers(paths: &[PathBuf], out: &mut impl Write) -> io::Result<()> {
             more |= source.go_on(&mut station, line)?;
         }
         let round = station.round();
-        for (line, answer) in &round {
-            writeln!(out, "{line} {answer}")?;
+        for (line, entry) in round.entries() {
+            writeln!(out, "{line} frame {}: {entry}", entry.frame)?;
         }
         more |= !round.is_idle();
     }

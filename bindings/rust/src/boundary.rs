@@ -10,7 +10,7 @@
 use core::mem::size_of;
 
 type Marks = [[u8; 6]; 8];
-type Places = [[u16; 3]; 8];
+type Places = [[u16; 4]; 8];
 type Contents = [[u8; 128]; 8];
 type Inboxes = [[u8; 256]; 8];
 
@@ -25,14 +25,14 @@ pub(crate) struct Station {
 }
 
 // None of a station's bytes is padding.
-const _: () = assert!(size_of::<Station>() == 8 * (6 + 2 * 3 + 128 + 256));
+const _: () = assert!(size_of::<Station>() == 8 * (6 + 2 * 4 + 128 + 256));
 const _: () = assert!(size_of::<usize>() == 8); // the archive is for a machine of 64 bits
 
 impl Station {
     /// Zeros: all lines closed.
     pub(crate) const CLOSED: Station = Station {
         marks: [[0; 6]; 8],
-        places: [[0; 3]; 8],
+        places: [[0; 4]; 8],
         contents: [[0; 128]; 8],
         inboxes: [[0; 256]; 8],
     };
@@ -181,23 +181,24 @@ mod tests {
     use super::*;
     use std::vec::Vec;
 
-    /// Document 01: 18, "sheet under 1,080 bytes", "nothing changed", and "a refused round gives eight zero counts".
-    /// [`crate::Station::round`] always lends 1,080, so only here can it be given a shorter one.
+    /// Document 01: 18, "sheet under" so many bytes, "nothing changed", and "a refused round gives eight zero counts"; M-108:
+    /// "The smallest sheet, and so 18, is now at 1,096 bytes." [`crate::Station::round`] always lends 1,096, so only here
+    /// can it be given a shorter one.
     #[test]
-    fn a_sheet_of_1079_bytes_is_refused_and_one_of_1080_is_not() {
+    fn a_sheet_of_1095_bytes_is_refused_and_one_of_1096_is_not() {
         let mut station = Station::CLOSED;
         assert_eq!(open(&mut station, 3, 1), 0);
         assert_eq!(deliver(&mut station, 3, &[0x82, 0x03]), 0);
         let before = *bytes(&station);
 
-        let (mut sheet, mut counts) = ([0xEE; 1080], [0xEE; 8]);
-        assert_eq!(round(&mut station, &mut sheet[..1079], &mut counts), 18);
-        assert_eq!(*bytes(&station), before);
-        assert_eq!((sheet, counts), ([0xEE; 1080], [0; 8]));
-        counts = [0xEE; 8];
-        assert_eq!(round(&mut station, &mut [], &mut counts), 18);
-        assert_eq!(*bytes(&station), before);
-        assert_eq!(counts, [0; 8]);
+        let (mut sheet, mut counts) = ([0xEE; 1096], [0xEE; 8]);
+        for length in [0, 1, 1079, 1080, 1095] {
+            counts = [0xEE; 8];
+            let short = &mut sheet[..length];
+            assert_eq!(round(&mut station, short, &mut counts), 18);
+            assert_eq!(*bytes(&station), before);
+            assert_eq!((sheet, counts), ([0xEE; 1096], [0; 8]));
+        }
 
         // Eight counts, eight offsets, the one entry; "bytes after the last entry are unchanged".
         assert_eq!(round(&mut station, &mut sheet, &mut counts), 0);
@@ -207,8 +208,45 @@ mod tests {
             sheet[8..24],
             [0, 0, 0, 0, 0, 0, 24, 0, 0, 0, 0, 0, 0, 0, 0, 0]
         );
-        assert_eq!(sheet[24..28], [2, 0, 0, 0]);
-        assert_eq!(sheet[28..], [0xEE; 1080 - 28]);
+        assert_eq!(sheet[24..30], [2, 0, 0, 0, 1, 0]);
+        assert_eq!(sheet[30..], [0xEE; 1096 - 30]);
+    }
+
+    /// M-108: "Every sheet entry carries it, two bytes, low byte first, before the text". Two lines in their 258th frame,
+    /// which is 2 and 256, a third one in its first: the whole sheet, laid out by hand.
+    #[test]
+    fn the_number_of_the_frame_stands_before_the_text() {
+        let mut station = Station::CLOSED;
+        let (mut sheet, mut counts) = ([0xEE; 1096], [0; 8]);
+        for line in [1, 4, 6] {
+            assert_eq!(open(&mut station, line, 1), 0);
+        }
+        for _ in 1..258 {
+            assert_eq!(deliver(&mut station, 1, &[0x82, 0x03]), 0);
+            assert_eq!(deliver(&mut station, 4, &[0x82, 0x03]), 0);
+            assert_eq!(round(&mut station, &mut sheet, &mut counts), 0);
+        }
+        let stamped = b"SMAXSN\tH081225223518\t01200\t7";
+        assert_eq!(deliver(&mut station, 1, &begun_frame(stamped)), 0);
+        let wrong_kind = b"STGE\t003a0001\tZ";
+        assert_eq!(deliver(&mut station, 4, &begun_frame(wrong_kind)), 0);
+        let plain = b"URMS1\t230\t?";
+        assert_eq!(deliver(&mut station, 6, &begun_frame(plain)), 0);
+        sheet = [0xEE; 1096];
+        assert_eq!(round(&mut station, &mut sheet, &mut counts), 0);
+
+        // Contents of 28, 15 and 11 characters, and STX, LF and CR. The first entry has a text of 6, 13 and 5 characters
+        // behind its 6 bytes, the second no text, and the third one of 5 and 3.
+        assert_eq!(counts, [0, 31, 0, 0, 18, 0, 14, 0]);
+        let mut expected = Vec::from(counts);
+        expected.extend([0, 0, 24, 0, 0, 0, 0, 0, 54, 0, 0, 0, 60, 0, 0, 0]);
+        expected.extend([1, 6, 13, 5, 2, 1]);
+        expected.extend(b"SMAXSNH08122522351801200");
+        expected.extend([14, 0, 0, 8, 2, 1]);
+        expected.extend([1, 5, 0, 3, 1, 0]);
+        expected.extend(b"URMS1230");
+        assert_eq!(sheet[..expected.len()], expected);
+        assert!(sheet[expected.len()..].iter().all(|&byte| byte == 0xEE));
     }
 
     /// Document 01: "Refused judging shows three empty stretches"; [`crate::judge`] hands out none at all then.
@@ -258,21 +296,21 @@ mod tests {
     fn the_fourth_byte_of_a_refused_groups_entry_is_the_place() {
         for (mode, content, number, place) in JUDGED {
             if (2..=14).contains(&number) {
-                let entry = [number as u8, 0, 0, place as u8];
+                let entry = [number as u8, 0, 0, place as u8, 1, 0];
                 assert_eq!(first_entry(mode, &begun_frame(content)), entry);
             }
         }
-        // 7, and those that are no refusals of a group: 2 to 6.
-        let others: [(&[u8], u8); 6] = [
-            (&[0x82, 0x03], 2),
-            (&[0x82, 0x8D, 0x03], 3),
-            (&[0x82, 0x84], 4),
-            (&[0x82, 0x82], 5),
-            (&[0x82, 0x0A, 0x53, 0x0A], 6),
-            (&[0x82, 0x0A, 0xD3, 0x8D], 7),
+        // 7, and those that are no refusals of a group: 2 to 6. All are in the first frame but 5, which is in the second.
+        let others: [(&[u8], u8, u8); 6] = [
+            (&[0x82, 0x03], 2, 1),
+            (&[0x82, 0x8D, 0x03], 3, 1),
+            (&[0x82, 0x84], 4, 1),
+            (&[0x82, 0x82], 5, 2),
+            (&[0x82, 0x0A, 0x53, 0x0A], 6, 1),
+            (&[0x82, 0x0A, 0xD3, 0x8D], 7, 1),
         ];
-        for (wire, number) in others {
-            assert_eq!(first_entry(1, wire), [number, 0, 0, 0]);
+        for (wire, number, frame) in others {
+            assert_eq!(first_entry(1, wire), [number, 0, 0, 0, frame, 0]);
         }
     }
 
@@ -283,18 +321,18 @@ mod tests {
         characters.map(sound).collect()
     }
 
-    /// The first four bytes of what line 6 answers first to these bytes.
-    fn first_entry(mode: u32, wire: &[u8]) -> [u8; 4] {
+    /// The six bytes of what line 6 answers first to these bytes, an accepted group apart.
+    fn first_entry(mode: u32, wire: &[u8]) -> [u8; 6] {
         let mut station = Station::CLOSED;
         assert_eq!(open(&mut station, 6, mode), 0);
         assert_eq!(deliver(&mut station, 6, wire), 0);
-        let (mut sheet, mut counts) = ([0xEE; 1080], [0; 8]);
+        let (mut sheet, mut counts) = ([0xEE; 1096], [0; 8]);
         while sheet[20] != 24 {
             assert_eq!(round(&mut station, &mut sheet, &mut counts), 0);
             assert_ne!(counts[6], 0, "there is no answer");
         }
-        assert_eq!(sheet[28..], [0xEE; 1080 - 28]);
-        [sheet[24], sheet[25], sheet[26], sheet[27]]
+        assert_eq!(sheet[30..], [0xEE; 1096 - 30]);
+        sheet[24..30].try_into().unwrap()
     }
 
     /// Document 01: the writer tells "how many bytes it wrote, 0 when it refuses".

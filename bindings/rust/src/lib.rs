@@ -7,7 +7,8 @@
 //! The `unsafe` of this crate is in one module, `boundary`. The crate itself is not proved: it is small, and tested.
 //!
 //! "Document 01" is the customer's scope page, and document 02 has the customer's later requests. Document 01's numbers are
-//! the numbers of [`Answer`], [`Notice`] and [`Refusal`]; a [`Fault`] says where in a group it went wrong.
+//! the numbers of [`Answer`], [`Notice`] and [`Refusal`]; a [`Fault`] says where in a group it went wrong, and an [`Entry`] in
+//! which frame an answer came.
 //!
 //! # The way to use it
 //!
@@ -94,5 +95,5 @@ mod station;
 
 pub use group::{judge, judge_raw, write, write_raw, Group, Written, MOST_CONTENT, MOST_WRITTEN};
 pub use numbers::{words, Fault, Mode, Notice, Refusal};
-pub use round::{Answer, Answers, Round};
+pub use round::{Answer, Answers, Entries, Entry, Round};
 pub use station::{Station, INBOX, LINES};

@@ -22,7 +22,7 @@ const WORDS: [&str; 21] = [
     "inbox or lent buffer too short for all",
     "line number 8 or more",
     "delivery to a closed line",
-    "sheet under 1,080 bytes",
+    "sheet under 1,096 bytes",
     "mode not 0 to 2",
     "capture empty or not begun by H, S or P",
 ];
@@ -155,8 +155,8 @@ pub enum Refusal {
     LineUnknown = 16,
     /// The line is closed.
     LineClosed = 17,
-    /// The sheet has under 1,080 bytes. Document 01 has the number, but no call of this crate gives it: a [`Round`]
-    /// brings a sheet of 1,080 bytes with it.
+    /// The sheet has under 1,096 bytes. Document 01 has the number, but no call of this crate gives it: a [`Round`]
+    /// brings a sheet of 1,096 bytes with it.
     ///
     /// [`Round`]: crate::Round
     SheetShort = 18,

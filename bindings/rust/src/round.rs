@@ -5,7 +5,7 @@ use crate::station::LINES;
 use core::fmt;
 
 /// The bytes that a sheet must have.
-const SHEET: usize = 1080;
+const SHEET: usize = 1096;
 
 /// What a line answered in a round.
 #[derive(Clone, Copy, Debug, PartialEq, Eq)]
@@ -66,6 +66,47 @@ impl fmt::Display for Answer<'_> {
     }
 }
 
+/// An answer of a line, with the number of its frame (document 02, M-108): what a sheet has of a line.
+///
+/// The number tells which groups came together: those of one line that have the same number.
+///
+/// ```
+/// use espandim::{Mode, Station};
+///
+/// let mut station = Station::new();
+/// station.open(0, Mode::Historic)?;
+/// station.deliver(0, b"\x82\x03\x82\x84\x82\x82\x03")?; // STX ETX, STX EOT, STX STX ETX
+/// let mut told = Vec::new();
+/// loop {
+///     let round = station.round();
+///     told.extend(round.entries().map(|(_, entry)| (entry.frame, entry.answer.number())));
+///     if round.is_idle() {
+///         break;
+///     }
+/// }
+/// assert_eq!(told, [(1, 2), (2, 4), (4, 5), (4, 2)]); // the third frame has no answer: the fourth began before it ended
+/// # Ok::<(), espandim::Refusal>(())
+/// ```
+#[derive(Clone, Copy, Debug, PartialEq, Eq)]
+pub struct Entry<'a> {
+    /// The number of the frame. A line's is 0 when it is opened, and one more at every STX, outside, in a frame or in a group;
+    /// a damaged one is no STX. 65,535 is followed by 0.
+    ///
+    /// Answers 2, 3 and 4 have the number of the frame that they end, 5 has the new one, and all others that of the frame they
+    /// came in. So the first frame after an opening has 1, and the 65,536th is the first with 0. Of a line that was not opened
+    /// in between, two answers with the same number are of one frame, unless 65,536 frames or more began between them.
+    pub frame: u16,
+    /// What the line answered.
+    pub answer: Answer<'a>,
+}
+
+/// As the listing has it, which does not show the number of the frame: the [`Answer`] alone.
+impl fmt::Display for Entry<'_> {
+    fn fmt(&self, to: &mut fmt::Formatter<'_>) -> fmt::Result {
+        self.answer.fmt(to)
+    }
+}
+
 /// What a round told: how many bytes each line's turn took, and what the lines answered, at most one answer a line.
 #[must_use = "an answer is told by one round and by no other"]
 #[derive(Clone)]
@@ -98,6 +139,11 @@ impl Round {
 
     /// What this line answered, if it answered and is a line.
     pub fn answer(&self, line: u32) -> Option<Answer<'_>> {
+        Some(self.entry(line)?.answer)
+    }
+
+    /// What this line answered, with the number of its frame, if it answered and is a line.
+    pub fn entry(&self, line: u32) -> Option<Entry<'_>> {
         let line = usize::try_from(line).ok().filter(|&line| line < LINES)?;
         let (low, high) = (self.sheet[8 + 2 * line], self.sheet[9 + 2 * line]);
         match u16::from_le_bytes([low, high]) {
@@ -109,16 +155,31 @@ impl Round {
     /// The lines that answered, in their order, and their answers.
     pub fn answers(&self) -> Answers<'_> {
         Answers {
+            entries: self.entries(),
+        }
+    }
+
+    /// The lines that answered, in their order, and their answers with the numbers of their frames.
+    pub fn entries(&self) -> Entries<'_> {
+        Entries {
             round: self,
             lines: 0..LINES as u32,
         }
     }
 }
 
-/// An entry: 1, the lengths of label, stamp and data, and these three; or another number, two zeros and the place. The proved
-/// archive writes no others; with another one a length out of range panics here, and reads nothing.
-fn read_entry(entry: &[u8]) -> Answer<'_> {
-    let (head, text) = entry.split_at(4);
+/// An entry: 1, and the lengths of label, stamp and data; or another number, two zeros and the place. Then the number of the
+/// frame, low byte first, and behind 1 label, stamp and data. The proved archive writes no others; with another one a length
+/// out of range panics here, and reads nothing.
+fn read_entry(entry: &[u8]) -> Entry<'_> {
+    let (head, text) = entry.split_at(6);
+    Entry {
+        frame: u16::from_le_bytes([head[4], head[5]]),
+        answer: read_answer(head, text),
+    }
+}
+
+fn read_answer<'a>(head: &[u8], text: &'a [u8]) -> Answer<'a> {
     if head[0] == 1 {
         let (label, rest) = text.split_at(usize::from(head[1]));
         let (stamp, rest) = rest.split_at(usize::from(head[2]));
@@ -140,15 +201,15 @@ fn read_entry(entry: &[u8]) -> Answer<'_> {
 
 impl fmt::Debug for Round {
     fn fmt(&self, to: &mut fmt::Formatter<'_>) -> fmt::Result {
-        struct Entries<'a>(&'a Round);
-        impl fmt::Debug for Entries<'_> {
+        struct ByLine<'a>(&'a Round);
+        impl fmt::Debug for ByLine<'_> {
             fn fmt(&self, to: &mut fmt::Formatter<'_>) -> fmt::Result {
-                to.debug_map().entries(self.0).finish()
+                to.debug_map().entries(self.0.entries()).finish()
             }
         }
         to.debug_struct("Round")
             .field("counts", &self.counts())
-            .field("answers", &Entries(self))
+            .field("entries", &ByLine(self))
             .finish()
     }
 }
@@ -165,16 +226,30 @@ impl<'a> IntoIterator for &'a Round {
 /// The lines that answered in a round, in their order, and their answers.
 #[derive(Clone, Debug)]
 pub struct Answers<'a> {
-    round: &'a Round,
-    lines: core::ops::Range<u32>,
+    entries: Entries<'a>,
 }
 
 impl<'a> Iterator for Answers<'a> {
     type Item = (u32, Answer<'a>);
 
     fn next(&mut self) -> Option<(u32, Answer<'a>)> {
+        let (line, entry) = self.entries.next()?;
+        Some((line, entry.answer))
+    }
+}
+
+/// The lines that answered in a round, in their order, and their answers with the numbers of their frames.
+#[derive(Clone, Debug)]
+pub struct Entries<'a> {
+    round: &'a Round,
+    lines: core::ops::Range<u32>,
+}
+
+impl<'a> Iterator for Entries<'a> {
+    type Item = (u32, Entry<'a>);
+
+    fn next(&mut self) -> Option<(u32, Entry<'a>)> {
         let round = self.round;
-        self.lines
-            .find_map(|line| Some((line, round.answer(line)?)))
+        self.lines.find_map(|line| Some((line, round.entry(line)?)))
     }
 }

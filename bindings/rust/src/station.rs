@@ -14,7 +14,7 @@ pub const INBOX: usize = 256;
 /// Eight meters' lines, 0 to 7, each with an inbox for the bytes that came off its wire.
 ///
 /// Line numbers have 32 bits: a caller's 256 would arrive as line 0, were it cut to a byte first. So would 4,294,967,296,
-/// cut by `as u32`: use `try_into`. A station is 3,168 bytes with no pointer in them: it can stand in a `static`, be moved,
+/// cut by `as u32`: use `try_into`. A station is 3,184 bytes with no pointer in them: it can stand in a `static`, be moved,
 /// and be sent to another thread.
 #[derive(Clone)]
 pub struct Station {
@@ -29,8 +29,9 @@ impl Station {
         }
     }
 
-    /// Opens a line in a mode, whether it was open or not: its inbox is empty then, and the line outside every frame. So
-    /// open a line once: an opening before each delivery would drop what waits, and the frame that has begun.
+    /// Opens a line in a mode, whether it was open or not: its inbox is empty then, the line outside every frame, and its
+    /// [frame number](crate::Entry::frame) 0. So open a line once: an opening before each delivery would drop what waits, and
+    /// the frame that has begun.
     ///
     /// # Errors
     ///
@@ -68,18 +69,18 @@ impl Station {
     /// With rounds by the clock instead, as many are needed as bytes can come on one line: 1,920 a second at 19200 baud, 960
     /// at 9600, 120 at 1200.
     ///
-    /// It can't be refused, as the sheet that is lent for it always has the 1,080 bytes that it needs.
+    /// It can't be refused, as the sheet that is lent for it always has the 1,096 bytes that it needs.
     pub fn round(&mut self) -> Round {
         let mut round = Round::blank();
         let (sheet, counts) = round.parts_mut();
         outcome(boundary::round(&mut self.memory, sheet, counts), 0)
-            .expect("a sheet of 1,080 bytes is not refused");
+            .expect("a sheet of 1,096 bytes is not refused");
         round
     }
 
     /// The station's memory, byte by byte. Two stations with the same bytes answer alike from there on; what the bytes
     /// mean is the archive's own business.
-    pub fn bytes(&self) -> &[u8; 3168] {
+    pub fn bytes(&self) -> &[u8; 3184] {
         boundary::bytes(&self.memory)
     }
 }

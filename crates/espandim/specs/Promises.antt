@@ -75,7 +75,7 @@ module _ (s : Station) (line : ℕ) where
       refusals.opens-called s line mode .1
       ∙ ap (λ a. station.numberOf (called s a .reply)) (refusals.opening-no-mode s line mode h k)
 
--- "18: sheet under 1,080 bytes"
+-- "18: sheet under 1,096 bytes" (document 02, M-108)
 pub round-no-sheet : (s : Station) (sheet : List ℕ) → length sheet < smallestSheet
     → gets s (serves sheet) .number ≡ 18
 round-no-sheet s sheet h = rw (refusals.serves-round s sheet .1, refusals.turns-no-sheet s sheet h)
@@ -144,7 +144,7 @@ numbers-due {cs = cs} c number made a =
 -- And: a round's sheet tells of each line exactly the bytes up to and including the first of the oldest 64 that gives an
 -- answer.
 pub counts-right : {m n : Memory} {cs : List Call} {gots : List Got} (i : ℕ) (sheet sheet' counts : List ℕ) (number : ℕ)
-    → i < 8 → 1080 ≤ length sheet → Made zeros cs gots m → Serves m sheet number n sheet' counts
+    → i < 8 → 1096 ≤ length sheet → Made zeros cs gots m → Serves m sheet number n sheet' counts
     → readTurn sheet' i ≡ turnDue 64 (accountBy i cs gots)
 counts-right {cs = cs} i sheet sheet' counts number h t made a =
     let e = same-station made ∙ ap (λ (s : Station). run s cs) zeros-closed in

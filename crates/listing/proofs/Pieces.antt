@@ -20,7 +20,7 @@ use Rattle.listing.specs.declared.Listed.{Listed}
 module _ (l : LineState) (content bytes : List ℕ) (long : length content ≡ 128) (taken : Taken) (left : List ℕ)
     (f : Fed (fed 0 l content bytes) taken left) where
   -- what the line took, as the line of document 01 takes it
-  taken-view : FedView (l .mode) 0 (record { result = taken; content = left }) (lineOf l content) bytes
+  taken-view : FedView (l .mode) (l .frame) 0 (record { result = taken; content = left }) (lineOf l content) bytes
   taken-view = rw (f .results, f .leaves) (fed-view 0 l content bytes long)
 
   -- the fields of what was heard lie in the content

@@ -78,8 +78,8 @@ listing-begins (letter ∷ a) b h = begins-in (modeBy letter) a b
 opened-in : (mode : ℕ) (l : LineState) (known : Bool) → isMode mode ≡ known → openingOf mode ≡ Opened l
     → Fresh mode l
 opened-in mode l true k e =
-    let same : stateOf mode Outside 0 ≡ l = cc (opening-known mode k) in
-    record { in-mode = rw (sym same); is-outside = λ content. rw (sym same) (opened-view mode content) }
+    let same : stateOf mode 0 Outside 0 ≡ l = cc (opening-known mode k) in
+    record { in-mode = rw (sym same); is-outside = λ content. rw (sym same) (opened-view mode 0 content) }
 opened-in mode l false k e =
     let z : _≡_ {A = ℕ} 0 1 = cc (opening-unknown mode k) in absurd (omega arith)
 

@@ -351,7 +351,7 @@ fn main() {
     let mut piece = [0u8; 4096];
     let mut page = [0u8; 4096];
     let mut marks = [[0u8; 6]; 8];
-    let mut places = [[0u16; 3]; 8];
+    let mut places = [[0u16; 4]; 8];
     let mut contents = [[0u8; 128]; 8];
     let mut inboxes = [[0u8; 256]; 8];
     let mut desk = Desk {

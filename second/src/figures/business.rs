@@ -673,13 +673,13 @@ fn m_100_a_line_of_the_station() {
     let mut station = open_station(5, BUSINESS);
     assert_eq!(station.deliver(5, &frame), Ok(()));
     let entries: [&[u8]; 4] = [
-        b"\x01\x02\x00\x05PS36kVA",
-        b"\x0E\x00\x00\x0B",
-        b"\x01\x04\x00\x11DATE25/12/08 22:35:18",
-        b"\x03\x00\x00\x00",
+        b"\x01\x02\x00\x05\x01\x00PS36kVA",
+        b"\x0E\x00\x00\x0B\x01\x00",
+        b"\x01\x04\x00\x11\x01\x00DATE25/12/08 22:35:18",
+        b"\x03\x00\x00\x00\x01\x00",
     ];
     for entry in entries {
-        let mut sheet = [0xEE; 1080];
+        let mut sheet = [0xEE; 1096];
         assert!(station.round(&mut sheet).is_ok());
         assert_eq!(sheet[24..24 + entry.len()], *entry);
         assert_eq!(sheet[24 + entry.len()], 0xEE);

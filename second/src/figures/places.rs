@@ -121,11 +121,11 @@ fn m_104_where_the_place_is_shown() {
         }
         let mut station = open_station(6, number_of_mode);
         assert_eq!(station.deliver(6, &wire), Ok(()));
-        let mut sheet = [0xEE; 1080];
+        let mut sheet = [0xEE; 1096];
         assert!(station.round(&mut sheet).is_ok());
         assert_eq!(sheet[24], number);
         if number != 1 {
-            assert_eq!(sheet[25..29], [0, 0, place as u8, 0xEE]);
+            assert_eq!(sheet[25..31], [0, 0, place as u8, 1, 0, 0xEE]);
         }
     }
     let examples = [
@@ -167,11 +167,13 @@ fn m_104_answers_without_a_place() {
         assert_eq!(listing(&[b"S", wire].concat()), format!("{number}\n"));
         let mut station = open_station(0, STANDARD);
         assert_eq!(station.deliver(0, wire), Ok(()));
-        let mut sheet = [0xEE; 1080];
+        let mut sheet = [0xEE; 1096];
         while sheet[8] != 24 {
             assert!(station.round(&mut sheet).is_ok());
         }
-        assert_eq!(sheet[24..29], [number, 0, 0, 0, 0xEE]);
+        // Only the 5 begins a second frame (M-108).
+        let frame = if number == 5 { 2 } else { 1 };
+        assert_eq!(sheet[24..31], [number, 0, 0, 0, frame, 0, 0xEE]);
     }
 }
 

@@ -32,15 +32,15 @@ fn in_use() -> Station {
 #[test]
 fn a_new_station_is_zeros_and_all_lines_are_closed() {
     let mut station = Station::new();
-    assert_eq!(*station.bytes(), [0; 3168]);
-    assert_eq!(*Station::default().bytes(), [0; 3168]);
+    assert_eq!(*station.bytes(), [0; 3184]);
+    assert_eq!(*Station::default().bytes(), [0; 3184]);
     for line in 0..8 {
         refused(&mut station, 17, |station| station.deliver(line, &[STX]));
     }
     let round = station.round();
     assert_eq!(round.counts(), [0; 8]);
     assert_eq!(round.answers().count(), 0);
-    assert_eq!(*station.bytes(), [0; 3168]);
+    assert_eq!(*station.bytes(), [0; 3184]);
 }
 
 #[test]
@@ -340,7 +340,7 @@ fn an_answer_on_the_64th_byte_ends_the_turn_in_this_round() {
 
 #[test]
 fn eight_long_entries_stand_on_one_sheet() {
-    // 8 and 98 characters: an entry of 110 bytes, so that most offsets need their high byte.
+    // 6 bytes, and 8 and 98 characters: an entry of 112 bytes, so that most offsets need their high byte.
     let mut station = Station::new();
     let data: Vec<Vec<u8>> = (0..8).map(|line| vec![b'a' + line; 98]).collect();
     for line in 0..8 {

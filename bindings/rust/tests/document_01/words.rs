@@ -64,7 +64,7 @@ fn words_are_those_of_their_numbers() {
         (15, "too short"),
         (16, "8 or more"),
         (17, "closed"),
-        (18, "1,080"),
+        (18, "1,096"),
         (19, "mode not 0 to 2"),
         (20, "H, S or P"),
     ];
