@@ -52,7 +52,7 @@ unfolding entryHeard entryBytes pick
 told-entry notice frame content = rw (heard-told notice content, notice-number notice, bytes-kept frame)
 
 group-entry : (fields : Fields) (frame : ℕ) (content : List ℕ) → length content ≡ 128 → FieldsInside (Accepted fields)
-    → entryHeard (Accepted fields) frame content ≡ groupEntry fields frame content
+    → entryHeard (Accepted fields) frame content ≡ groupEntry fields (frame % 256) (frame / 256 % 256) content
 unfolding entryHeard entryBytes pick
 group-entry fields frame content e inside =
     rw (
@@ -103,21 +103,22 @@ module _ (sheet content : List ℕ) (at room : ℕ) (heard : Heard) (frame : ℕ
       short-put sheet sheet content at at heard frame long (fits .inside)
       (rw (e, nothing-entry frame content) (sym (add-zero at), paste-zero sheet at []))
 
-  pub put-told : (x : List ℕ) (number place : ℕ) (notice : Notice) → heard ≡ Told notice → number ≡ numberOf heard
+  pub put-told : (x : List ℕ) (number place low high : ℕ) (notice : Notice) → low ≡ frame % 256 → high ≡ frame / 256 % 256
+      → heard ≡ Told notice → number ≡ numberOf heard
       → place ≡ placeOf heard
-      → x ≡ paste sheet at (number ∷ 0 ∷ 0 ∷ place ∷ frame % 256 ∷ frame / 256 % 256 ∷ []) 6
+      → x ≡ paste sheet at (number ∷ 0 ∷ 0 ∷ place ∷ low ∷ high ∷ []) 6
       → PutShort sheet at (entryHeard heard frame content) (at + 6) x
-  put-told x number place notice e n o p =
+  put-told x number place low high notice ol oh e n o p =
       let k : number ≡ numberOfNotice notice = n ∙ ap numberOf e in
       let j : place ≡ placeOfNotice notice = o ∙ ap placeOf e in
       short-put sheet x content at (at + 6) heard frame long (fits .inside)
-      (rw (e, told-entry notice frame content) (refl, rw (k, j) at p))
+      (rw (e, told-entry notice frame content) (refl, rw (k, j, ol, oh) at p))
 
-  pub put-accepted : (x : List ℕ) (place : ℕ) (fields : Fields) → heard ≡ Accepted fields
-      → Put sheet at (groupEntry fields frame content) place x → PutShort sheet at (entryHeard heard frame content) place x
-  put-accepted x place fields e p =
+  pub put-accepted : (x : List ℕ) (place low high : ℕ) (fields : Fields) → low ≡ frame % 256 → high ≡ frame / 256 % 256
+      → heard ≡ Accepted fields → Put sheet at (groupEntry fields low high content) place x → PutShort sheet at (entryHeard heard frame content) place x
+  put-accepted x place low high fields ol oh e p =
       short-put sheet x content at place heard frame long (fits .inside)
-      (rw (e, group-entry fields frame content long (subst FieldsInside e (fits .inside))) p)
+      (rw (e, group-entry fields frame content long (subst FieldsInside e (fits .inside))) (rw (ol, oh) at p))
 
 -- what an accepted group needs, of what anything heard needs
 pub fits-accepted : (heard : Heard) (fields : Fields) (at room : ℕ) → heard ≡ Accepted fields → Fits heard at room
@@ -125,17 +126,17 @@ pub fits-accepted : (heard : Heard) (fields : Fields) (at room : ℕ) → heard 
 fits-accepted heard fields at room e f = subst (λ (h : Heard). Fits h at room) e f
 
 -- the head of an entry, and its three texts behind it
-module _ (sheet content : List ℕ) (at : ℕ) (fields : Fields) (frame : ℕ) (long : length content ≡ 128)
+module _ (sheet content : List ℕ) (at : ℕ) (fields : Fields) (low high : ℕ) (long : length content ≡ 128)
     (fits : Fits (Accepted fields) at (length sheet)) where
   pub put-group : (x y z u : List ℕ) (p q r : ℕ)
-      → x ≡ paste sheet at (1 ∷ fields .label .length ∷ fields .stamp .length ∷ fields .«data» .length ∷ frame % 256 ∷ frame / 256 % 256 ∷ []) 6
+      → x ≡ paste sheet at (1 ∷ fields .label .length ∷ fields .stamp .length ∷ fields .«data» .length ∷ low ∷ high ∷ []) 6
       → p ≡ at + 6 + fields .label .length
       → y ≡ paste x (at + 6) (stretchIn (fields .label) content) (length (stretchIn (fields .label) content))
       → q ≡ p + fields .stamp .length
       → z ≡ paste y p (stretchIn (fields .stamp) content) (length (stretchIn (fields .stamp) content))
       → r ≡ q + fields .«data» .length
       → u ≡ paste z q (stretchIn (fields .«data») content) (length (stretchIn (fields .«data») content))
-      → Put sheet at (groupEntry fields frame content) r u
+      → Put sheet at (groupEntry fields low high content) r u
   put-group x y z u p q r ex ep ey eq ez er eu =
       let i = fits .inside in
       let label = stretchIn (fields .label) content in
@@ -145,7 +146,7 @@ module _ (sheet content : List ℕ) (at : ℕ) (fields : Fields) (frame : ℕ) (
       let s = stretch-length (fields .stamp) content long (i .stamp-inside) in
       let t = stretch-length (fields .«data») content long (i .data-inside) in
       let head : List ℕ =
-      1 ∷ fields .label .length ∷ fields .stamp .length ∷ fields .«data» .length ∷ frame % 256 ∷ frame / 256 % 256 ∷ [] in
+      1 ∷ fields .label .length ∷ fields .stamp .length ∷ fields .«data» .length ∷ low ∷ high ∷ [] in
       let ls : length (label ++ stamp) ≡ fields .label .length + fields .stamp .length =
       length-append label stamp ∙ rw (l, s) in
       let lst : length (label ++ (stamp ++ text)) ≡ fields .label .length + (fields .stamp .length + fields .«data» .length) =

@@ -1,7 +1,7 @@
 -- What the parts of the code hand to each other, by the station's own definitions.
 use mathlib.Core.Path.{_≡_}
 use mathlib.Core.List.{List, _∷_, _++_, map}
-use Prim.Native.Nat.{ℕ, _+_, _-_, _/_, _%_, _≤_}
+use Prim.Native.Nat.{ℕ, _+_, _-_, _%_, _≤_}
 use lib.Dec.{ltb}
 use lib.ListN.{length, take, drop}
 use lib.Seq.{paste}
@@ -81,10 +81,10 @@ stretchIn s content = take (s .length) (drop (s .start) content)
 unfoldable pub entryHeard : Heard → ℕ → List ℕ → List ℕ
 entryHeard heard frame content = entryOf (framedIf (frame % 65536) (shownIf (heardAnswer heard content)))
 
--- the entry of an accepted group whose fields lie inside the content
-abbrev pub groupEntry : Fields → ℕ → List ℕ → List ℕ
-groupEntry fields frame content =
-    1 ∷ fields .label .length ∷ fields .stamp .length ∷ fields .«data» .length ∷ frame % 256 ∷ frame / 256 % 256
+-- the entry of an accepted group whose fields lie inside the content, with the two bytes of its frame's number
+abbrev pub groupEntry : Fields → ℕ → ℕ → List ℕ → List ℕ
+groupEntry fields low high content =
+    1 ∷ fields .label .length ∷ fields .stamp .length ∷ fields .«data» .length ∷ low ∷ high
     ∷ (stretchIn (fields .label) content ++ (stretchIn (fields .stamp) content ++ stretchIn (fields .«data») content))
 
 -- the offset of an entry that would stand at a place

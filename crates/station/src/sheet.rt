@@ -44,28 +44,30 @@ pub(crate) fn put_entry(
 {
     let number = line::number_of(heard);
     let place = line::place_of(heard);
+    let low = (frame % 256) as u8;
+    let high = (frame / 256 % 256) as u8;
     match heard {
         Heard::Nothing => at,
-        Heard::Accepted(fields) => put_group(sheet, at, fields, frame, content),
+        Heard::Accepted(fields) => put_group(sheet, at, fields, low, high, content),
         Heard::Told(_) => {
-            let head = [
-                number,
-                0,
-                0,
-                place,
-                (frame % 256) as u8,
-                (frame / 256 % 256) as u8,
-            ];
+            let head = [number, 0, 0, place, low, high];
             copy::copy_in(sheet, at, &head);
             at + 6
         }
     }
 }
 
-// Puts the entry of an accepted group on the sheet; the place behind it.
-fn put_group(sheet: &mut [u8], at: usize, fields: Fields, frame: u16, content: [u8; 128]) -> usize
+// Puts the entry of an accepted group on the sheet, with the two bytes of its frame's number; the place behind it.
+fn put_group(
+    sheet: &mut [u8],
+    at: usize,
+    fields: Fields,
+    low: u8,
+    high: u8,
+    content: [u8; 128],
+) -> usize
     requires { ⌜ Fits (Heard.Accepted fields) at (length (now sheet)) ⌝ }
-    ensures { λ r. ⌜ Put (now (sheet .entry)) at (groupEntry fields frame content) r (now (sheet .exit)) ⌝ }
+    ensures { λ r. ⌜ Put (now (sheet .entry)) at (groupEntry fields low high content) r (now (sheet .exit)) ⌝ }
 {
     let label = fields.label;
     let stamp = fields.stamp;
@@ -75,8 +77,8 @@ fn put_group(sheet: &mut [u8], at: usize, fields: Fields, frame: u16, content: [
         label.length as u8,
         stamp.length as u8,
         data.length as u8,
-        (frame % 256) as u8,
-        (frame / 256 % 256) as u8,
+        low,
+        high,
     ];
     copy::copy_in(sheet, at, &head);
     let at_stamp = put_part(sheet, at + 6, content, label);

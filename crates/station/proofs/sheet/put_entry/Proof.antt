@@ -3,6 +3,7 @@ use Rattle.station.proofs.Entries.{fits-accepted, put-accepted, put-not
 use borrow.Author.Needs.{needs}
 use lib.ListN.{length}
 use mathlib.Core.Path.{_≡_}
+use native.Mathlib.Omega.{arith}
 use Rattle.station.proofs.sheet.put_entry.Statement.{statement}
 use Rattle.station.proofs.sheet.put_entry.Tie as tie
 
@@ -14,6 +15,12 @@ number-of-requires c κs = search needs
 
 place-of-requires : tie.Need-place-of-requires
 place-of-requires c κs = search needs
+
+cast-low : tie.Need-cast-low
+cast-low c = search needs
+
+cast-high : tie.Need-cast-high
+cast-high c = search needs
 
 enum-told : tie.Need-enum-told
 enum-told c = search needs
@@ -29,12 +36,6 @@ put-group-requires c κs =
 
 enum-told-2 : tie.Need-enum-told-2
 enum-told-2 c = search needs
-
-cast-t14 : tie.Need-cast-t14
-cast-t14 c = search needs
-
-cast-t17 : tie.Need-cast-t17
-cast-t17 c = search needs
 
 slice-aggregate-copy-in : tie.Need-slice-aggregate-copy-in
 slice-aggregate-copy-in c = search needs
@@ -58,7 +59,8 @@ returns-2 c =
     let at-put-group = c .before .before in
     let at-heard = at-put-group .before .before .before in
     let start = at-heard .before .before .before .before .before in
-    put-accepted (start .args .sheet .now) (start .args .content) (start .args .at) _ (start .args .heard) (start .args .frame) (long start) (start .pre) _ _ _ (at-heard .heard .given .1) (at-put-group .put-group .ensures)
+    put-accepted (start .args .sheet .now) (start .args .content) (start .args .at) _ (start .args .heard) (start .args .frame) (long start) (start .pre) _ _ _ _ _ (omega arith) (omega arith) (at-heard .heard .given .1)
+    (at-put-group .put-group .ensures)
 
 same-length-2 : tie.Need-same-length-2
 same-length-2 c = search needs
@@ -70,7 +72,8 @@ returns-3 c =
     let at-place-of = at-enum-told2 .before .before in
     let at-number-of = at-place-of .before in
     let start = at-number-of .before .before in
-    put-told (start .args .sheet .now) (start .args .content) (start .args .at) _ (start .args .heard) (start .args .frame) (long start) (start .pre) _ _ _ _ (at-enum-told2 .enum-told2 .given .1) (at-number-of .number-of .ensures)
+    put-told (start .args .sheet .now) (start .args .content) (start .args .at) _ (start .args .heard) (start .args .frame) (long start) (start .pre) _ _ _ _ _ _ (omega arith) (omega arith) (at-enum-told2 .enum-told2 .given .1)
+    (at-number-of .number-of .ensures)
     (at-place-of .place-of .ensures)
     (at-copy-in .copy-in .ensures)
 
@@ -80,12 +83,12 @@ put-entry-spec =
     (tie.spec
     number-of-requires
     place-of-requires
+    cast-low
+    cast-high
     enum-told
     enum-known-heard
     put-group-requires
     enum-told-2
-    cast-t14
-    cast-t17
     slice-aggregate-copy-in
     copy-in-requires
     add-result

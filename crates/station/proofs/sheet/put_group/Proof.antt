@@ -9,20 +9,14 @@ use Rattle.station.proofs.sheet.put_group.Tie as tie
 long : (c : tie.Start) → length (c .args .content) ≡ 128
 long c = search needs
 
-cast-t12 : tie.Need-cast-t12
-cast-t12 c = search needs
-
 cast-t13 : tie.Need-cast-t13
 cast-t13 c = search needs
 
 cast-t14 : tie.Need-cast-t14
 cast-t14 c = search needs
 
-cast-t16 : tie.Need-cast-t16
-cast-t16 c = search needs
-
-cast-t19 : tie.Need-cast-t19
-cast-t19 c = search needs
+cast-t15 : tie.Need-cast-t15
+cast-t15 c = search needs
 
 slice-aggregate-copy-in : tie.Need-slice-aggregate-copy-in
 slice-aggregate-copy-in c = search needs
@@ -52,7 +46,7 @@ returns c =
     let at-put-part = at-put-part2 .before .before .before .before in
     let at-copy-in = at-put-part .before .before .before .before in
     let start = at-copy-in .before .before .before .before .before .before .before .before .before .before in
-    put-group (start .args .sheet .now) (start .args .content) (start .args .at) (start .args .fields) (start .args .frame) (long start) (start .pre) _ _ _ _ _ _ _
+    put-group (start .args .sheet .now) (start .args .content) (start .args .at) (start .args .fields) (start .args .low) (start .args .high) (long start) (start .pre) _ _ _ _ _ _ _
     (at-copy-in .copy-in .ensures) (at-put-part .put-part .ensures .0) (at-put-part .put-part .ensures .1) (at-put-part2 .put-part2 .ensures .0) (at-put-part2 .put-part2 .ensures .1)
     (at-put-part3 .put-part3 .ensures .0) (at-put-part3 .put-part3 .ensures .1)
 
@@ -60,11 +54,9 @@ pub put-group-spec : {M : Type 1} → statement M
 put-group-spec =
     tie.close
     (tie.spec
-    cast-t12
     cast-t13
     cast-t14
-    cast-t16
-    cast-t19
+    cast-t15
     slice-aggregate-copy-in
     copy-in-requires
     add-put-part
