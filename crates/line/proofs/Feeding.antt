@@ -1,7 +1,7 @@
 -- Bytes one after the other: what is left of them decides.
-use mathlib.Core.Path.{_≡_, refl, sym, ap, _∙_}
-use mathlib.Core.List.{List, [], _∷_}
-use Prim.Native.Nat.{ℕ, suc, _+_, _≤_, _<_}
+use mathlib.Core.Path.{_≡_, sym, ap, _∙_}
+use mathlib.Core.List.{List}
+use Prim.Native.Nat.{ℕ, _+_, _≤_, _<_}
 use native.Mathlib.Numerals.{add-one}
 use lib.ListN.{length, getD, drop, drop-of-length-le}
 use lib.Seq.{drop-cons}
@@ -9,7 +9,6 @@ use Rattle.line.specs.Steps.{Stepped, stepped, FedTo, fedOn, Fed, fed}
 use Rattle.line.specs.declared.LineState.{LineState}
 use Rattle.line.specs.declared.Fields.{Fields}
 use Rattle.line.specs.declared.Notice.{Notice}
-use Rattle.line.specs.declared.Heard.{Heard}
 use Rattle.line.specs.declared.Heard.the-variants.{Nothing, Accepted, Told}
 use Rattle.line.specs.declared.Taken.{Taken}
 use Rattle.line.specs.declared.step.Reaction.{Reaction}

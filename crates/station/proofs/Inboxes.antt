@@ -1,14 +1,13 @@
 -- The ways through the functions of one line's inbox, over plain variables.
-use mathlib.Core.Path.{_≡_, refl, sym, ap, ap₂, _∙_}
+use mathlib.Core.Path.{_≡_, refl, ap, ap₂, _∙_}
 use mathlib.Core.List.{List, [], _++_}
 use Prim.Native.Nat.{ℕ, _+_, _-_, _≤_, _<_}
 use native.Mathlib.Omega.{arith}
-use lib.Dec.{eqb, ltb}
 use lib.ListN.{length, take, drop, getD, set, length-take, length-drop}
 use lib.Seq.{paste, set-getD}
 use borrow.Author.Tests.{lt-ltb, le-ltb, le-leb, lt-leb, eq-eqb, ne-eqb}
 use Rattle.characters.specs.Answers.{Answer, refused, given, need, pick}
-use Rattle.station.specs.Lines.{waiting, oldest, over, added, filling}
+use Rattle.station.specs.Lines.{waiting, oldest, over, filling}
 use Rattle.station.specs.Stations.{zeroLine, lineAt, withLine, called, filledAt, delivering}
 use Rattle.station.specs.Laws.Views.{waiting-most, waiting-at, lineLeft}
 use Rattle.station.specs.Records.{StationLine, Station}

@@ -8,7 +8,7 @@ use lib.Seq.{paste, length-take-le, drop-at}
 use borrow.Author.Tests.{le-leb, lt-leb}
 use Rattle.characters.specs.Answers.{need}
 use Rattle.station.specs.Lines.{over, turning}
-use Rattle.station.specs.Sheets.{Told, counts, joined, twoBytes, offsets, entries, sheetOf}
+use Rattle.station.specs.Sheets.{counts, offsets, entries, sheetOf}
 use Rattle.station.specs.Rounds.{turns, tells, toldOf, Round, round}
 use Rattle.station.specs.Parts.{ServesLines}
 use Rattle.station.specs.Records.{StationLine, Station, Turned}

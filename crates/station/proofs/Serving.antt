@@ -1,10 +1,10 @@
 -- The loop of a round, over plain variables: what is left of it decides. Then all of it, as the turns of the lines.
-use mathlib.Core.Path.{_≡_, refl, sym, ap, ap₂, _∙_, subst}
+use mathlib.Core.Path.{_≡_, refl, sym, ap, _∙_, subst}
 use mathlib.Core.List.{List, [], _∷_, _++_, append-assoc, append-nil, map}
 use Prim.Native.Nat.{ℕ, zero, suc, _+_, _-_, _*_, _%_, _/_, _≤_, _<_}
 use native.Mathlib.Omega.{arith}
 use lib.Dec.{leb→le}
-use lib.ListN.{length, take, drop, getD, set, replicate, length-append, take-append-drop}
+use lib.ListN.{length, take, getD, set, replicate, length-append, take-append-drop}
 use lib.Seq.{paste, paste-zero, set-at, set-getD, getD-at, getD-set-other, append-snoc, length-take-le}
 use Rattle.line.specs.Entries.{framedIf}
 use Rattle.line.specs.State.{frameOf}
@@ -19,7 +19,7 @@ use Rattle.station.specs.Stations.{zeroLine}
 use Rattle.station.specs.Sheets.{Told, entryOf, offsetOf, twoBytes, offsets, joined, entries}
 use Rattle.station.specs.Rounds.{tells}
 use Rattle.station.specs.Parts.{entryHeard, offsetHeard, toldBy, ServesLines}
-use Rattle.station.specs.Laws.Views.{Long, Longs, no-lines, one-line, turn-view, turn-short}
+use Rattle.station.specs.Laws.Views.{Long, Longs, one-line, turn-view, turn-short}
 use Rattle.station.specs.Records.{StationLine, Turned}
 use Rattle.station.proofs.Copying.{paste-over}
 

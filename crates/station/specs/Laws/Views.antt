@@ -16,7 +16,7 @@ use Rattle.line.specs.FrameNumbers.{begun, frameAfter}
 use Rattle.line.specs.State.{lineOf, frameOf, stateOf, openingOf}
 use Rattle.line.specs.Steps.{heardAnswer, fed}
 use Rattle.line.specs.Views.{FieldsInside, opened-view, fed-view, until-most}
-use Rattle.line.specs.Entries.{Entry, Framed, framed, framedIf, firstEntry}
+use Rattle.line.specs.Entries.{Framed, framed, framedIf, firstEntry}
 use Rattle.line.specs.Numbers.{shownIf, shownFramed}
 use Rattle.line.specs.Laws.Openings.{opening-known, opening-unknown}
 use Rattle.line.specs.Laws.FrameNumbers.{after-remainder, until-number}

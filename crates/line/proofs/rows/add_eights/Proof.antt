@@ -1,5 +1,5 @@
 -- Eight by eight.
-use Prim.Native.Nat.{_+_, _-_, _≤_}
+use Prim.Native.Nat.{_-_, _≤_}
 use Rattle.line.specs.Runs.{AddsOn}
 use borrow.Author.Needs.{needs}
 use native.Mathlib.Omega.{arith}

@@ -1,7 +1,6 @@
 -- In a group the characters are added; elsewhere nothing is taken.
 use borrow.Author.Needs.{needs}
 use Rattle.line.proofs.InRows.{takes-added, takes-none}
-use native.Mathlib.Omega.{arith}
 use Rattle.line.proofs.rows.take_text.Statement.{statement}
 use Rattle.line.proofs.rows.take_text.Tie as tie
 

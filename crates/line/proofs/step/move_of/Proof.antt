@@ -1,6 +1,6 @@
 -- CR in a group is that of the rules.
 use borrow.Author.Needs.{needs}
-use mathlib.Core.Path.{_∙_, ap, sym}
+use mathlib.Core.Path.{_∙_, ap}
 use Rattle.line.specs.Rules.{move}
 use Rattle.line.proofs.Reactions.{ends-group}
 use Rattle.line.proofs.step.move_of.Statement.{statement}
