@@ -190,8 +190,15 @@ pub answers-right : (i : ℕ) (cs : List Call) (m : Mode) → i < 8 → accountO
     → accountOf i cs .answered ≡ answersDue m [] (bytesTaken (accountOf i cs))
 answers-right = accounts.answers-right
 
--- Document 02, M-108. The number with an answer is the count of the sound STX among the bytes since the opening, the answer's
--- own byte included, by remainder of 65,536; and without it the answer is the one that document 01 has due.
+-- Document 02, M-108. The number that a round's sheet has with a line's answer is the count of the sound STX among the bytes of
+-- the line that were taken since its opening, this turn's included, by remainder of 65,536. A turn's last byte is the answer's.
+pub frames-read : (i : ℕ) (cs : List Call) (sheet : List ℕ) (e : Framed Entry) → i < 8 → 1096 ≤ length sheet
+    → readTurn (gets (run allClosed cs) (serves sheet) .lent) i .entry ≡ some e
+    → e .frame ≡ countOf (is STX) (bytesTaken (accountOf i (cs ++ serves sheet ∷ []))) % 65536
+frames-read = rounds.frames-read
+
+-- So by the bytes alone: the number that is due with an answer counts the sound STX among the bytes since the opening, the
+-- answer's own byte included; and without it the answer is the one that document 01 has due.
 pub frames-counted : (m : Mode) (before : List ℕ) (b : ℕ) (e : Framed Entry) → entryDue m before b ≡ some e
     → (e .frame ≡ countOf (is STX) (before ++ b ∷ []) % 65536) × (answerDue m before b ≡ some (e .what))
 frames-counted = line.number-counted

@@ -17,10 +17,10 @@ use Rattle.groups.specs.Laws.Tests.{not-some}
 use Rattle.groups.specs.declared.Mode.{Mode}
 use Rattle.line.specs.Symbols.{symbolOf}
 use Rattle.line.specs.Lines.{LineAnswer, State, step, after, andThen, answers, onward, untilAnswer}
-use Rattle.line.specs.Entries.{Entry, Framed, framed, framedIf, firstEntry}
+use Rattle.line.specs.Entries.{Entry, Framed, framed, framedIf, entryList, firstEntry}
 use Rattle.line.specs.FrameNumbers.{nextFrame, frameAt, frameAfter, framedAfter, framedAnswers}
 use Rattle.line.specs.Numbers.{shownFramed}
-use Rattle.line.specs.ByBytes.{is, answerDue, countOf, frameNumber, entryDue}
+use Rattle.line.specs.ByBytes.{is, answerDue, countOf, frameNumber, entryDue, answersDue, isAnswered, upToAnswer}
 use Rattle.line.specs.Laws.Bytes as bytes
 use Rattle.line.specs.Laws.Until as until
 use Rattle.line.specs.Laws.LookingBack.{isAs, tests}
@@ -127,6 +127,11 @@ after-remainder n (b ∷ bs) = after-remainder (frameAt n (symbolOf b)) bs ∙ a
 
 -- ---- What is said of the number by the bytes
 
+-- it is their count
+pub number-is : (bytes : List ℕ) → frameNumber bytes ≡ countOf (is STX) bytes % 65536
+unfolding frameNumber
+number-is bytes = refl
+
 -- "0 when opened"
 pub number-opened : frameNumber [] ≡ 0
 unfolding frameNumber
@@ -151,6 +156,40 @@ number-counted m before b e = go (answerDue m before b)
     go (some a) q =
         let same : framed (frameNumber (before ++ b ∷ [])) a ≡ e = cc in
         (sym (ap (λ (x : Framed Entry). x .frame) same), ap (λ (x : Framed Entry). some (x .what)) same)
+
+-- bytes up to the first answer are no more than there are
+pub up-most : (m : Mode) (before bs : List ℕ) → upToAnswer m before bs ≤ length bs
+unfolding upToAnswer pick
+up-most m before [] = omega arith
+up-most m before (b ∷ bs) = go (isAnswered (answerDue m before b)) (up-most m (before ++ b ∷ []) bs)
+  where
+    go : (here : Bool) → upToAnswer m (before ++ b ∷ []) bs ≤ length bs
+        → pick here 1 (suc (upToAnswer m (before ++ b ∷ []) bs)) ≤ length (b ∷ bs)
+    go true h = omega arith
+    go false h = omega arith
+
+-- the first answer has the number behind these
+pub first-number : (m : Mode) (before bs : List ℕ) (e : Framed Entry) → firstEntry (answersDue m before bs) ≡ some e
+    → e .frame ≡ frameNumber (before ++ take (upToAnswer m before bs) bs)
+unfolding answersDue upToAnswer pick
+first-number m before [] e q = not-some q
+first-number m before (b ∷ bs) e q = go (answerDue m before b) (first-number m (before ++ b ∷ []) bs e) q
+  where
+    n : ℕ
+    n = frameNumber (before ++ b ∷ [])
+
+    k : ℕ
+    k = upToAnswer m (before ++ b ∷ []) bs
+
+    go : (o : Option Entry)
+        → (firstEntry (answersDue m (before ++ b ∷ []) bs) ≡ some e
+        → e .frame ≡ frameNumber ((before ++ b ∷ []) ++ take k bs))
+        → firstEntry (entryList (framedIf n o) ++ answersDue m (before ++ b ∷ []) bs) ≡ some e
+        → e .frame ≡ frameNumber (before ++ take (pick (isAnswered o) 1 (suc k)) (b ∷ bs))
+    go none more q = rw (← append-snoc before b (take k bs)) (more q)
+    go (some a) more q =
+        let same : framed n a ≡ e = cc in
+        sym (ap (λ (x : Framed Entry). x .frame) same)
 
 -- behind fewer than 65,536 STX it is the same exactly where there are none
 pub number-same : (before bs : List ℕ) → countOf (is STX) bs < 65536

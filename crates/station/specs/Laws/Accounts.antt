@@ -3,24 +3,24 @@
 use mathlib.Core.Path.{_≡_, refl, sym, ap, _∙_}
 use mathlib.Core.Bool.{Bool, true, false, false≢true}
 use mathlib.Core.Option.{Option, none, some}
-use mathlib.Core.List.{List, [], _∷_, _++_, map}
+use mathlib.Core.List.{List, [], _∷_, _++_, append-assoc, append-nil, map}
 use Prim.Native.Nat.{ℕ, _+_, _/_, _≤_, _<_}
 use native.Mathlib.Omega.{arith}
 use lib.Dec.{T}
-use lib.ListN.{length, take, length-append, length-map}
-use lib.Seq.{take-append-seam, drop-append-seam, take-take}
+use lib.ListN.{length, take, length-append, length-map, length-take}
+use lib.Seq.{take-add, take-append-seam, drop-append-seam, take-take}
 use borrow.Author.Tests.{eq-eqb}
 use Rattle.characters.specs.Answers.{pick}
 use Rattle.groups.specs.Modes.{modeOf, isKnown, isMode}
 use Rattle.groups.specs.Laws.Tests.{not-some}
 use Rattle.groups.specs.declared.Mode.{Mode}
 use Rattle.line.specs.Lines.{State}
-use Rattle.line.specs.Entries.{Framed, firstEntry}
+use Rattle.line.specs.Entries.{Entry, Framed, firstEntry}
 use Rattle.line.specs.FrameNumbers.{begun, framedAfter, framedAnswers}
-use Rattle.line.specs.ByBytes.{answersDue}
+use Rattle.line.specs.ByBytes.{frameNumber, answersDue, upToAnswer}
 use Rattle.line.specs.Promises.{answers-by-bytes, count-by-bytes, opened-by-bytes}
 use Rattle.line.specs.Numbers.{shownFramed}
-use Rattle.line.specs.Laws.FrameNumbers.{until-first}
+use Rattle.line.specs.Laws.FrameNumbers.{until-first, up-most, first-number}
 use Rattle.station.specs.Lines.{isOpen, waiting}
 use Rattle.station.specs.Stations.{allClosed, lineAt}
 use Rattle.station.specs.History.{
@@ -32,6 +32,7 @@ use Rattle.station.specs.History.{
   hears,
   events,
   Sight,
+  took,
   seenOf,
   seen,
   Account,
@@ -47,7 +48,7 @@ use Rattle.station.specs.History.{
   takenIn,
 }
 use Rattle.station.specs.OneLine.{Line, closed, opened, quota, turnTold, lineSight}
-use Rattle.station.specs.Due.{turnBehind, turnDue}
+use Rattle.station.specs.Due.{turnBehind, turnIn, turnDue}
 use Rattle.station.specs.Laws.Balance.{Balance, balance, quota-most}
 use Rattle.station.specs.Laws.Bound as bound
 use Rattle.station.specs.Laws.Views.{framedLine, standsFor}
@@ -193,6 +194,38 @@ pub opening-drops : (i : ℕ) (cs : List Call) (mode : ℕ) (m : Mode) → i < 8
     → accountOf i (cs ++ opens i mode ∷ []) ≡ afresh (some m)
 opening-drops i cs mode m h k =
     afresh-after i allClosed never cs mode h (ap isKnown k) made-closed ∙ ap afresh k
+
+-- ---- One call more
+
+-- what is seen of it is seen last
+seen-more : (i : ℕ) (s : Station) (cs : List Call) (c : Call)
+    → seen i s (cs ++ c ∷ []) ≡ seen i s cs ++ seenOf i c (gets (run s cs) c)
+seen-more i s [] c = append-nil (seenOf i c (gets s c))
+seen-more i s (d ∷ cs) c =
+    ap (λ (xs : List Sight). seenOf i d (gets s d) ++ xs) (seen-more i (next s d) cs c)
+    ∙ sym (append-assoc (seenOf i d (gets s d)) (seen i (next s d) cs) _)
+
+pub account-more : (i : ℕ) (cs : List Call) (c : Call)
+    → accountOf i (cs ++ c ∷ []) ≡ account (accountOf i cs) (seenOf i c (gets (run allClosed cs) c))
+account-more i cs c =
+    ap (account never) (seen-more i allClosed cs c) ∙ account-append never (seen i allClosed cs) _
+
+-- the number with the answer of a turn is that of the bytes that the line has taken then
+pub turn-number : (a : Account) (e : Framed Entry) → turnDue 64 a .entry ≡ some e
+    → e .frame ≡ frameNumber (bytesTaken (entered a (took (turnDue 64 a))))
+unfolding entered
+turn-number a e = go (a .mode)
+  where
+    go : (o : Option Mode) → turnIn 64 o a .entry ≡ some e
+        → e .frame ≡ frameNumber (take (a .taken + turnIn 64 o a .count) (a .accepted))
+    go none q = not-some q
+    go (some m) q =
+        let waiting = bytesWaiting a in
+        let k = upToAnswer m (bytesTaken a) (take 64 waiting) in
+        let most = up-most m (bytesTaken a) (take 64 waiting) in
+        let long = length-take 64 waiting in
+        rw (take-add (a .taken) k (a .accepted), ← (take-take k 64 waiting (omega arith)))
+        (first-number m (bytesTaken a) (take 64 waiting) e q)
 
 -- ---- Lines apart, and the bound
 

@@ -1,22 +1,27 @@
 -- An accepted round: what it tells of each turn, and its sheet.
-use mathlib.Core.Path.{_≡_, refl, sym, _∙_}
+use mathlib.Core.Path.{_≡_, refl, sym, ap, _∙_}
+use mathlib.Core.Option.{some}
 use mathlib.Core.List.{List, [], _∷_, _++_, map, map-map}
-use Prim.Native.Nat.{ℕ, _≤_, _<_}
+use Prim.Native.Nat.{ℕ, _%_, _≤_, _<_}
 use native.Mathlib.Omega.{arith}
 use lib.ListN.{length, take, drop, getD, length-map}
 use borrow.Author.Tests.{le-leb}
-use Rattle.characters.specs.Answers.{need}
+use Rattle.characters.specs.Answers.{need, pick}
+use Rattle.characters.specs.Wire.{STX}
+use Rattle.line.specs.Entries.{Entry, Framed}
+use Rattle.line.specs.ByBytes.{is, countOf}
+use Rattle.line.specs.Laws.FrameNumbers.{number-is}
 use Rattle.station.specs.Lines.{turning}
 use Rattle.station.specs.Stations.{zeroLine, allClosed, lineAt}
 use Rattle.station.specs.Sheets.{Told, idle, sheetOf}
 use Rattle.station.specs.Rounds.{turns, tells, toldOf, afterTurns, round}
 use Rattle.station.specs.Reading.{readTurn, turnsRead}
-use Rattle.station.specs.History.{Call, serves, gets, run, accountOf}
+use Rattle.station.specs.History.{Call, serves, gets, run, took, seenOf, entered, accountOf, bytesTaken}
 use Rattle.station.specs.Due.{turnDue}
 use Rattle.station.specs.Laws.Sheets.{sheet-fits, counts-first, reads-back}
 use Rattle.station.specs.Laws.Views.{turn-view}
 use Rattle.station.specs.Laws.Calls.{Made, long-at, turn-at, turns-short, turns-plain, made-closed, made-run}
-use Rattle.station.specs.Laws.Accounts.{turn-right}
+use Rattle.station.specs.Laws.Accounts.{turn-right, account-more, turn-number}
 use Rattle.station.specs.Records.{Station}
 
 -- an accepted round is that of all turns
@@ -97,3 +102,21 @@ sheet-right cs sheet t =
     let m = made-run allClosed cs made-closed in
     let (fits, laid, first, read) = round-sheet s sheet m t in
     rw (eight-turns (round s sheet .sheet) (toldOf s) (told-eight s m) read) (fits, laid, sym first)
+
+-- an accepted round is 0
+round-number : (s : Station) (sheet : List ℕ) → 1096 ≤ length sheet → gets s (serves sheet) .number ≡ 0
+unfolding gets
+round-number s sheet t = rw (round-accepted s sheet t)
+
+-- the number that is read with an answer is the count of the STX among the bytes that the line has taken then
+pub frames-read : (i : ℕ) (cs : List Call) (sheet : List ℕ) (e : Framed Entry) → i < 8 → 1096 ≤ length sheet
+    → readTurn (gets (run allClosed cs) (serves sheet) .lent) i .entry ≡ some e
+    → e .frame ≡ countOf (is STX) (bytesTaken (accountOf i (cs ++ serves sheet ∷ []))) % 65536
+unfolding seenOf pick
+frames-read i cs sheet e h t q =
+    let a = accountOf i cs in
+    let same = turns-right i cs sheet h t in
+    let after : accountOf i (cs ++ serves sheet ∷ []) ≡ entered a (took (turnDue 64 a)) =
+    account-more i cs (serves sheet) ∙ rw (round-number (run allClosed cs) sheet t, same) in
+    turn-number a e (ap (λ (x : Told). x .entry) (sym same) ∙ q)
+    ∙ number-is _ ∙ rw after
