@@ -23,6 +23,7 @@ use Rattle.line.specs.Numbers.{shownFramed}
 use Rattle.line.specs.Laws.FrameNumbers.{until-first, up-most, first-number}
 use Rattle.station.specs.Lines.{isOpen, waiting}
 use Rattle.station.specs.Stations.{allClosed, lineAt}
+use Rattle.station.specs.Sheets.{Told}
 use Rattle.station.specs.History.{
   Call,
   opens,
@@ -211,21 +212,21 @@ account-more i cs c =
     ap (account never) (seen-more i allClosed cs c) ∙ account-append never (seen i allClosed cs) _
 
 -- the number with the answer of a turn is that of the bytes that the line has taken then
-pub turn-number : (a : Account) (e : Framed Entry) → turnDue 64 a .entry ≡ some e
-    → e .frame ≡ frameNumber (bytesTaken (entered a (took (turnDue 64 a))))
+pub turn-number : (n : ℕ) (a : Account) (t : Told) (e : Framed Entry) → t ≡ turnDue n a → t .entry ≡ some e
+    → e .frame ≡ frameNumber (bytesTaken (entered a (took t)))
 unfolding entered
-turn-number a e = go (a .mode)
+turn-number n a t e same = rw same (go (a .mode))
   where
-    go : (o : Option Mode) → turnIn 64 o a .entry ≡ some e
-        → e .frame ≡ frameNumber (take (a .taken + turnIn 64 o a .count) (a .accepted))
+    go : (o : Option Mode) → turnIn n o a .entry ≡ some e
+        → e .frame ≡ frameNumber (take (a .taken + turnIn n o a .count) (a .accepted))
     go none q = not-some q
     go (some m) q =
         let waiting = bytesWaiting a in
-        let k = upToAnswer m (bytesTaken a) (take 64 waiting) in
-        let most = up-most m (bytesTaken a) (take 64 waiting) in
-        let long = length-take 64 waiting in
-        rw (take-add (a .taken) k (a .accepted), ← (take-take k 64 waiting (omega arith)))
-        (first-number m (bytesTaken a) (take 64 waiting) e q)
+        let k = upToAnswer m (bytesTaken a) (take n waiting) in
+        let most = up-most m (bytesTaken a) (take n waiting) in
+        let long = length-take n waiting in
+        rw (take-add (a .taken) k (a .accepted), ← (take-take k n waiting (omega arith)))
+        (first-number m (bytesTaken a) (take n waiting) e q)
 
 -- ---- Lines apart, and the bound
 

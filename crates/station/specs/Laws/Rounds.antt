@@ -1,5 +1,5 @@
 -- An accepted round: what it tells of each turn, and its sheet.
-use mathlib.Core.Path.{_≡_, refl, sym, ap, _∙_}
+use mathlib.Core.Path.{_≡_, refl, sym, _∙_}
 use mathlib.Core.Option.{some}
 use mathlib.Core.List.{List, [], _∷_, _++_, map, map-map}
 use Prim.Native.Nat.{ℕ, _%_, _≤_, _<_}
@@ -114,9 +114,8 @@ pub frames-read : (i : ℕ) (cs : List Call) (sheet : List ℕ) (e : Framed Entr
     → e .frame ≡ countOf (is STX) (bytesTaken (accountOf i (cs ++ serves sheet ∷ []))) % 65536
 unfolding seenOf pick
 frames-read i cs sheet e h t q =
-    let a = accountOf i cs in
     let same = turns-right i cs sheet h t in
-    let after : accountOf i (cs ++ serves sheet ∷ []) ≡ entered a (took (turnDue 64 a)) =
-    account-more i cs (serves sheet) ∙ rw (round-number (run allClosed cs) sheet t, same) in
-    turn-number a e (ap (λ (x : Told). x .entry) (sym same) ∙ q)
-    ∙ number-is _ ∙ rw after
+    let told = readTurn (gets (run allClosed cs) (serves sheet) .lent) i in
+    let after : accountOf i (cs ++ serves sheet ∷ []) ≡ entered (accountOf i cs) (took told) =
+    account-more i cs (serves sheet) ∙ rw (round-number (run allClosed cs) sheet t) in
+    turn-number _ (accountOf i cs) told e same q ∙ number-is _ ∙ rw after
