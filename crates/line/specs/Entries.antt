@@ -23,7 +23,7 @@ refusedAt n place = record { number = n; label = []; stamp = []; «data» = []; 
 abbrev pub only : ℕ → Entry
 only n = refusedAt n 0
 
--- "Every sheet entry carries it": an answer with the number of its frame (document 02, M-108); so does a line
+-- "Every sheet entry carries it": an answer, or a line, with the number of its frame (document 02, M-108)
 pub record Framed (A : Type 0) : Type 0 where
   pub frame : ℕ
   pub what : A

@@ -55,7 +55,8 @@ pub enum Heard {
     Told(Notice),
 }
 
-// What became of a stretch of bytes: the line afterwards, how many bytes it took, and the answer that ended it, if any.
+// What became of a stretch of bytes: the line afterwards, how many bytes it took, and the answer that ended it, if any. The
+// number of the answer's frame is the one that the line has afterwards (M-108).
 pub struct Taken {
     pub line: LineState,
     pub count: usize,

@@ -1,6 +1,6 @@
--- A worked sheet, byte by byte from document 01's sentences, and document 02's M-104 and M-108: an accepted group with a stamp, a line
--- without an answer, two entries without text, two long ones, behind which an offset needs its second byte, and a refused
--- group with its place.
+-- A worked sheet, byte by byte from document 01's sentences, and document 02's M-104 and M-108: an accepted group with a stamp, a
+-- line without an answer, two entries without text, two long ones, behind which an offset needs its second byte, and a refused
+-- group with its place; with frame numbers of one byte and of two, the last one and 0.
 use mathlib.Core.Path.{_≡_, refl}
 use mathlib.Core.Option.{none, some}
 use mathlib.Core.List.{List, [], _∷_, _++_}
