@@ -75,17 +75,20 @@ pub next-other : (n : ℕ) → (n ≡ 65535 → ⊥) → nextFrame n ≡ n + 1
 unfolding nextFrame pick
 next-other n h = rw (ne-eqb n 65535 h) (omega arith)
 
--- "65,535 followed by 0" is the remainder of 65,536
-pub next-remainder : (k : ℕ) → nextFrame (k % 65536) ≡ suc k % 65536
-next-remainder k = go (eqb (k % 65536) 65535) refl
+-- "one more .., 65,535 followed by 0" is one more by the remainder of 65,536
+one-more : (k : ℕ) → suc k % 65536 ≡ pick (eqb (k % 65536) 65535) 0 (suc (k % 65536))
+unfolding pick
+one-more k = go (eqb (k % 65536) 65535) refl
   where
-    go : (last : Bool) → eqb (k % 65536) 65535 ≡ last → nextFrame (k % 65536) ≡ suc k % 65536
-    go true e =
-        let last = eqb-true (k % 65536) 65535 e in
-        omega (arith, next-last (k % 65536) last)
+    go : (last : Bool) → eqb (k % 65536) 65535 ≡ last → suc k % 65536 ≡ pick last 0 (suc (k % 65536))
+    go true e = omega (arith, eqb-true (k % 65536) 65535 e)
     go false e =
-        let other = eqb-false (k % 65536) 65535 e in
-        omega (arith, next-other (k % 65536) other)
+        let other : (k % 65536 ≡ 65535) → ⊥ = eqb-false (k % 65536) 65535 e in
+        omega arith
+
+next-remainder : (k : ℕ) → nextFrame (k % 65536) ≡ suc k % 65536
+unfolding nextFrame
+next-remainder k = sym (one-more k)
 
 -- one byte more, by the count
 pub number-more : (p : List ℕ) (b : ℕ) → frameAt (frameNumber p) (symbolOf b) ≡ frameNumber (p ++ b ∷ [])
@@ -141,8 +144,16 @@ number-opened = refl
 pub number-next : (before : List ℕ) (b : ℕ)
     → frameNumber (before ++ b ∷ [])
     ≡ pick (is STX b) (pick (eqb (frameNumber before) 65535) 0 (suc (frameNumber before))) (frameNumber before)
-unfolding nextFrame
-number-next before b = sym (number-more before b) ∙ at-stx (frameNumber before) b
+unfolding frameNumber pick
+number-next before b = rw (count-more (is STX) before b) (go (is STX b))
+  where
+    k : ℕ
+    k = countOf (is STX) before
+
+    go : (stx : Bool)
+        → pick stx (suc k) k % 65536 ≡ pick stx (pick (eqb (k % 65536) 65535) 0 (suc (k % 65536))) (k % 65536)
+    go true = one-more k
+    go false = refl
 
 -- the number that comes with an answer
 pub number-counted : (m : Mode) (before : List ℕ) (b : ℕ) (e : Framed Entry) → entryDue m before b ≡ some e
