@@ -30,7 +30,8 @@ use Rattle.line.specs.declared.rules.Symbol.{Symbol}
 use Rattle.line.specs.declared.rules.Symbol.the-variants.{Stx, Etx, Eot, Lf, Cr, Damaged, Text}
 use Rattle.line.specs.declared.rules.Phase.{Phase}
 use Rattle.line.specs.declared.rules.Phase.the-variants.{Outside, Frame, Group}
-use Rattle.line.specs.declared.rules.Move.the-variants.{Quiet, Opens}
+use Rattle.line.specs.declared.rules.Move.{Move}
+use Rattle.line.specs.declared.rules.Move.the-variants.{Quiet, Opens, Says, Judges, Adds as AddsTo}
 use Rattle.line.specs.declared.rows.Passed.{Passed}
 use Rattle.line.specs.declared.rows.Run.{Run}
 use Rattle.line.specs.declared.step.Reaction.{Reaction}
@@ -250,26 +251,27 @@ quiet-flaws flaw Cr t e = refl
 quiet-flaws flaw Damaged t e = refl
 quiet-flaws flaw (Text c) t e = refl
 
--- and it is no STX, as that gives an answer in a frame; nor is what opens a group
-pub quiet-same : (flaw : Bool) (y : Symbol) (t : Phase) → move (Frame flaw) y ≡ Quiet t → (frame : ℕ)
-    → frameAt frame y ≡ frame
-quiet-same flaw Stx t e frame = let z : _≡_ {A = ℕ} 0 1 = cc e in absurd (omega arith)
-quiet-same flaw Etx t e frame = refl
-quiet-same flaw Eot t e frame = refl
-quiet-same flaw Lf t e frame = refl
-quiet-same flaw Cr t e frame = refl
-quiet-same flaw Damaged t e frame = refl
-quiet-same flaw (Text c) t e frame = refl
+-- a move that gives no answer
+abbrev isSilent : Move → Bool
+isSilent (Quiet p) = true
+isSilent (Opens flaw) = true
+isSilent (Says p notice) = false
+isSilent (AddsTo flaw damaged overlong c) = true
+isSilent (Judges flaw damaged overlong) = false
 
-pub opens-same : (flaw : Bool) (y : Symbol) (same : Bool) → move (Frame flaw) y ≡ Opens same → (frame : ℕ)
+-- in a frame an STX gives one, so what gives none leaves the frame number
+silent-same : (flaw : Bool) (y : Symbol) → T (isSilent (move (Frame flaw) y)) → (frame : ℕ) → frameAt frame y ≡ frame
+silent-same flaw Stx t frame = absurd t
+silent-same flaw Etx t frame = refl
+silent-same flaw Eot t frame = refl
+silent-same flaw Lf t frame = refl
+silent-same flaw Cr t frame = refl
+silent-same flaw Damaged t frame = refl
+silent-same flaw (Text c) t frame = refl
+
+pub move-same : (flaw : Bool) (y : Symbol) (x : Move) → move (Frame flaw) y ≡ x → T (isSilent x) → (frame : ℕ)
     → frameAt frame y ≡ frame
-opens-same flaw Stx same e frame = let z : _≡_ {A = ℕ} 0 1 = cc e in absurd (omega arith)
-opens-same flaw Etx same e frame = refl
-opens-same flaw Eot same e frame = refl
-opens-same flaw Lf same e frame = refl
-opens-same flaw Cr same e frame = refl
-opens-same flaw Damaged same e frame = refl
-opens-same flaw (Text c) same e frame = refl
+move-same flaw y x e t = silent-same flaw y (subst (λ (z : Move). T (isSilent z)) (sym e) t)
 
 -- ---- A line that takes them
 

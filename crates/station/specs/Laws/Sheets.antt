@@ -20,15 +20,15 @@ use Rattle.station.specs.Reading.{entryBy, readEntry, entryAt, readTurn}
 abbrev pub isShort : Told → Bool
 isShort t = leb (length (entryOf (t .entry))) 134
 
--- 1 has no place, and all others have no text
-abbrev hasOne : Entry → Bool
-hasOne e =
+-- a place or a text, and not both: 1 has no place, and all others have no text
+abbrev placeOrText : Entry → Bool
+placeOrText e =
     pick (eqb (e .number) 1) (eqb (e .place) 0) (eqb (length (e .label)) 0 && eqb (length (e .stamp)) 0 && eqb (length (e .«data»)) 0)
 
 -- it is one that a round tells, and its frame number one of 16 bits
 abbrev pub isPlain : Option (Framed Entry) → Bool
 isPlain none = true
-isPlain (some e) = ltb (e .frame) 65536 && hasOne (e .what)
+isPlain (some e) = ltb (e .frame) 65536 && placeOrText (e .what)
 
 -- ---- Its length
 
@@ -143,23 +143,23 @@ read-entry f rest t = rw number (go (eqb (e .number) 1) refl)
     e : Entry
     e = f .what
 
-    one-of : T (hasOne e)
-    one-of = and-yes (ltb (f .frame) 65536) (hasOne e) t .1
+    either : T (placeOrText e)
+    either = and-yes (ltb (f .frame) 65536) (placeOrText e) t .1
 
     number : f .frame % 256 + 256 * (f .frame / 256 % 256) ≡ f .frame
-    number = omega (arith, ltb→lt (f .frame) 65536 (and-yes (ltb (f .frame) 65536) (hasOne e) t .0))
+    number = omega (arith, ltb→lt (f .frame) 65536 (and-yes (ltb (f .frame) 65536) (placeOrText e) t .0))
 
     read : List ℕ → Entry
     read text = entryBy (e .number) (length (e .label)) (length (e .stamp)) (fourthByte e) text
 
     go : (one : Bool) → eqb (e .number) 1 ≡ one → some (framed (f .frame) (read (textOf e ++ rest))) ≡ some f
     go true q =
-        let u : T (eqb (e .place) 0) = rw q at one-of in
+        let u : T (eqb (e .place) 0) = rw q at either in
         let n = eqb-true (e .number) 1 q in
         let p = eqb→eq (e .place) 0 u in
         rw (q, n, p) (simp (append-assoc, take-append-seam, drop-append-seam))
     go false q =
-        let u : T (eqb (length (e .label)) 0 && eqb (length (e .stamp)) 0 && eqb (length (e .«data»)) 0) = rw q at one-of in
+        let u : T (eqb (length (e .label)) 0 && eqb (length (e .stamp)) 0 && eqb (length (e .«data»)) 0) = rw q at either in
         let (v, d) = and-yes (eqb (length (e .label)) 0 && eqb (length (e .stamp)) 0) (eqb (length (e .«data»)) 0) u in
         let (l, s) = and-yes (eqb (length (e .label)) 0) (eqb (length (e .stamp)) 0) v in
         rw (q, no-text (e .label) l, no-text (e .stamp) s, no-text (e .«data») d)

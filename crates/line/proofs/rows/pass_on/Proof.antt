@@ -7,7 +7,7 @@ use Rattle.line.specs.Symbols.{symbolOf}
 use Rattle.line.specs.Rules.{move}
 use Rattle.line.specs.Runs.{Passes}
 use Rattle.line.specs.declared.rules.Phase.the-variants.{Frame}
-use Rattle.line.proofs.InRows.{opens-same, passes-none, passes-opens, passes-quiet, quiet-flaws, quiet-same}
+use Rattle.line.proofs.InRows.{move-same, passes-none, passes-opens, passes-quiet, quiet-flaws}
 use mathlib.Core.Bool.{true}
 use Rattle.line.proofs.rows.pass_on.Statement.{statement}
 use Rattle.line.proofs.rows.pass_on.Tie as tie
@@ -52,7 +52,7 @@ loop-again c =
     let y = symbolOf (getD (start .args .bytes .now) (l .i) 0) in
     let quiet = ap (move (Frame (l .flawed))) (sym (at-symbol-of .symbol-of .ensures)) ∙ sym (at-moved .moved .ensures) ∙ c .enum-told .given .1 in
     passes-quiet (Frame (start .args .flaw)) (Frame (l .flawed)) (start .args .bytes .now) (l .i) (l .inv) (at-loop-test .loop-test .taken) (Frame true)
-    (quiet-same (l .flawed) y _ quiet) (quiet-flaws (l .flawed) y _ quiet)
+    (move-same (l .flawed) y _ quiet tt) (quiet-flaws (l .flawed) y _ quiet)
 
 enum-known-does : tie.Need-enum-known-does Inv-loop μ-loop
 enum-known-does c = search needs
@@ -71,7 +71,7 @@ returns c =
     let y = symbolOf (getD (start .args .bytes .now) (l .i) 0) in
     let opens = ap (move (Frame (l .flawed))) (sym (at-symbol-of .symbol-of .ensures)) ∙ sym (at-moved .moved .ensures) ∙ c .before .does .given .1 in
     passes-opens (Frame (start .args .flaw)) (Frame (l .flawed)) (start .args .bytes .now) (l .i) (l .inv) (at-loop-test .loop-test .taken) _
-    (opens-same (l .flawed) y _ opens) opens
+    (move-same (l .flawed) y _ opens tt) opens
 
 enum-told-2 : tie.Need-enum-told-2 Inv-loop μ-loop
 enum-told-2 c = search needs
