@@ -3,5 +3,3 @@ pub mod Answers
 pub mod Passing
 pub mod Wire
 pub mod Damage
-pub mod WireLaws
-pub mod Promises

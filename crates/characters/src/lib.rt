@@ -1,4 +1,6 @@
 // Characters on the wire: seven data bits with an even parity bit on top.
+#![tactic(auto)]
+
 ghost use Rattle.std.specs.Prelude.{◌≡◌};
 ghost use Rattle.characters.specs.Wire.{is_sound, character_of, wire_byte_of};
 

@@ -5,8 +5,8 @@ use Prim.Native.Nat.{ℕ, ◌≤◌}
 use Rattle.characters.specs.Answers.{Answer, refused}
 use Rattle.groups.specs.Judging.{shown}
 use Rattle.groups.specs.Place.{judgement}
-use Rattle.groups.specs.Laws.Unknown.{judging_no_mode}
-use Rattle.groups.specs.Laws.Place.{others_told}
+use Rattle.groups.proofs.Laws.Unknown.{judging_no_mode}
+use Rattle.groups.proofs.Laws.Place.{others_told}
 use Rattle.groups.specs.Numbers.{number_of, number_of_writing}
 use Rattle.groups.specs.Writing.{Wrote}
 use Rattle.groups.specs.declared.Refusal.{Refusal}
@@ -17,7 +17,7 @@ use Rattle.station.specs.Numbers as station
 use Rattle.station.specs.Memory.{Memory, station_in}
 use Rattle.station.specs.CallContracts.{called_as, Serves as Served}
 use Rattle.station.specs.History.{Call, next, gets}
-use Rattle.station.specs.Laws.Refusals.{serves_round}
+use Rattle.station.proofs.Laws.Refusals.{serves_round}
 use Rattle.station.specs.declared.Reply.{Reply}
 use Rattle.station.specs.declared.RoundTold.{RoundTold}
 use Rattle.station.specs.Records.{Called, Rounded}

@@ -12,8 +12,8 @@ use Rattle.characters.specs.Answers.{pick, by_pick, from_true, is_true}
 use Rattle.groups.specs.Forms.{Form, takes, last_of, matches, has_length, fits, some_fits}
 use Rattle.groups.specs.Formats.{form_of, forms}
 use Rattle.groups.specs.Stored.{format_at, formats_from, Between, Bounded}
-use Rattle.groups.specs.Laws.Tests.{split}
-use Rattle.groups.specs.Laws.Forms.{or_left, or_right}
+use Rattle.groups.proofs.Laws.Tests.{split}
+use Rattle.groups.proofs.Laws.Forms.{or_left, or_right}
 use Rattle.groups.proofs.Walks.{to_end}
 
 -- ---- One place

@@ -8,8 +8,8 @@ use lib.ListN.{length, get_or, take, drop, length-take, drop_of_length-le}
 use lib.Seq.{drop-cons, get_or-take}
 use Rattle.groups.specs.Order.{before}
 use Rattle.groups.specs.Packed.{packed, tail_of}
-use Rattle.groups.specs.Laws.Tests.{split}
-use Rattle.groups.specs.Laws.Packed.{Bytes, below}
+use Rattle.groups.proofs.Laws.Tests.{split}
+use Rattle.groups.proofs.Laws.Packed.{Bytes, below}
 
 -- what the last arm of a match on a number knows: it is none of those before
 abbrev pub NoneBelow : ℕ → ℕ → Type 0

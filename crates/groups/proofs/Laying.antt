@@ -21,8 +21,8 @@ use Rattle.groups.specs.Groups.{Group, group_of, compose, content, check, body, 
 use Rattle.groups.specs.Judging.{stamp_span}
 use Rattle.groups.specs.Writing.{on_the_wire, into, writing, told, left, Wrote}
 use Rattle.groups.specs.Inside.{Laid, ShortRow, RightFields, stamp_room, write_by}
-use Rattle.groups.specs.Laws.Groups.{stamp_length, body_length, width_most, content_length, checked_right}
-use Rattle.groups.specs.Laws.Table.{listed_right}
+use Rattle.groups.proofs.Laws.Groups.{stamp_length, body_length, width_most, content_length, checked_right}
+use Rattle.groups.proofs.Laws.Table.{listed_right}
 use Rattle.groups.proofs.Walks.{total_append}
 use Rattle.groups.specs.declared.Mode.{Mode}
 use Rattle.groups.specs.declared.Refusal.{Refusal}

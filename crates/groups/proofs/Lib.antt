@@ -7,3 +7,6 @@ pub mod Pictures
 pub mod Telling
 pub mod Between
 pub mod Laying
+pub mod Laws
+pub mod Promises
+pub mod Figures

@@ -18,8 +18,8 @@ use Rattle.groups.specs.Fields.{width_right, kind_right}
 use Rattle.groups.specs.Place.{agreed, reach, furthest, first_wrong}
 use Rattle.groups.specs.Stored.{plain_rule, formed_rule, form_in, format_at, formats_from}
 use Rattle.groups.specs.Inside.{wrong_at}
-use Rattle.groups.specs.Laws.Tests.{split}
-use Rattle.groups.specs.Laws.Forms.{some_reached, reached_some, furthest_most, run_end, match_run, kind_takes, or_false, append_none}
+use Rattle.groups.proofs.Laws.Tests.{split}
+use Rattle.groups.proofs.Laws.Forms.{some_reached, reached_some, furthest_most, run_end, match_run, kind_takes, or_false, append_none}
 use Rattle.groups.specs.declared.table.Form.{Form as StoredForm}
 use Rattle.groups.specs.declared.table.Kind.{Kind}
 use Rattle.groups.specs.declared.table.Plain.{Plain}

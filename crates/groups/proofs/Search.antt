@@ -17,11 +17,11 @@ use Rattle.groups.specs.Table.{historic_rows, standard_rows, business_rows, rows
 use Rattle.groups.specs.Order.{ordered}
 use Rattle.groups.specs.Packed.{packed, key_of, tail_of, label_in, rule_in, entry_in}
 use Rattle.groups.specs.Packed.{is_named, number_in, rising, Nearest, Short, rule_by, Decides}
-use Rattle.groups.specs.Laws.Tests.{same→eq, same_refl}
-use Rattle.groups.specs.Laws.Packed.{Bytes}
+use Rattle.groups.proofs.Laws.Tests.{same→eq, same_refl}
+use Rattle.groups.proofs.Laws.Packed.{Bytes}
 use Rattle.groups.proofs.Keys.{alike, bytes_take}
-use Rattle.groups.specs.Laws.Order.{first, range, lookup_first, nobody, no_test}
-use Rattle.groups.specs.Laws.Order.{empty_is_missing, longer_is_missing}
+use Rattle.groups.proofs.Laws.Order.{first, range, lookup_first, nobody, no_test}
+use Rattle.groups.proofs.Laws.Order.{empty_is_missing, longer_is_missing}
 use Rattle.groups.specs.declared.Mode.{Mode}
 use Rattle.groups.specs.declared.Mode.TheVariants.{Historic, Standard, Business}
 use Rattle.groups.specs.declared.table.Row.{Row}

@@ -20,10 +20,10 @@ use Rattle.groups.specs.Judging.{stamp_span}
 use Rattle.groups.specs.Conditions.{first_at, label_of, body_of, data_in}
 use Rattle.groups.specs.Place.{place_for, place_by, place_of, judgement}
 use Rattle.groups.specs.Inside.{refused_at, accepted_as, told_at, finished, told_of, told_behind, judged_in, stamp_room}
-use Rattle.groups.specs.Laws.Tests.{split}
-use Rattle.groups.specs.Laws.Places.{behind_short, read_cut}
-use Rattle.groups.specs.Laws.Conditions.{rest_front}
-use Rattle.groups.specs.Laws.Place.{no_place}
+use Rattle.groups.proofs.Laws.Tests.{split}
+use Rattle.groups.proofs.Laws.Places.{behind_short, read_cut}
+use Rattle.groups.proofs.Laws.Conditions.{rest_front}
+use Rattle.groups.proofs.Laws.Place.{no_place}
 use Rattle.groups.proofs.Views.{in_mode, no_mode}
 use Rattle.groups.specs.declared.Mode.{Mode}
 use Rattle.groups.specs.declared.Refusal.{Refusal}

@@ -14,8 +14,8 @@ use Rattle.groups.specs.Groups.{read}
 use Rattle.groups.specs.Judging.{judging}
 use Rattle.groups.specs.Stored.{rule_of, rule_found}
 use Rattle.groups.specs.Inside.{chosen_of, verdict_of, RightFields}
-use Rattle.groups.specs.Laws.Tests.{zero_is_not_one}
-use Rattle.groups.specs.Laws.Groups.{checked_given, checked_right}
+use Rattle.groups.proofs.Laws.Tests.{zero_is_not_one}
+use Rattle.groups.proofs.Laws.Groups.{checked_given, checked_right}
 use Rattle.groups.specs.declared.Mode.{Mode}
 use Rattle.groups.specs.declared.Refusal.{Refusal}
 use Rattle.groups.specs.declared.Refusal.TheVariants.{StampWrong, WidthWrong, KindWrong, ModeUnknown}

@@ -19,8 +19,8 @@ use Rattle.groups.specs.Table.{same}
 use Rattle.groups.specs.Groups.{total, check}
 use Rattle.groups.specs.Conditions.{first_at}
 use Rattle.groups.specs.Inside.{wrong_at, check_from, RightUpTo, ContentWalk, Split, FrontSum, StartsWith}
-use Rattle.groups.specs.Laws.Tests.{split}
-use Rattle.groups.specs.Laws.Conditions.{front_behind}
+use Rattle.groups.proofs.Laws.Tests.{split}
+use Rattle.groups.proofs.Laws.Conditions.{front_behind}
 use Rattle.groups.specs.declared.Mode.{Mode}
 use Rattle.groups.specs.declared.reading.Parted.{Parted}
 use Rattle.groups.specs.declared.table.Kind.TheVariants.{Digits}

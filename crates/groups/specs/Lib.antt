@@ -27,6 +27,3 @@ pub mod Right
 pub mod Listed
 pub mod Seasons
 pub mod Longest
-pub mod Laws
-pub mod Promises
-pub mod Figures

@@ -14,7 +14,7 @@ ghost use Rattle.groups.specs.declared.Mode.TheVariants.{Historic, Standard, Bus
 use crate::table::{Forms, Kind, Mark, Plain, Row, Rule};
 use crate::{Mode, table};
 
-#[derive(Drop)]
+#[derive(Clone, Copy)]
 pub(crate) enum Found {
     Listed(Rule),
     Unlisted,

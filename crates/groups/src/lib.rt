@@ -1,4 +1,6 @@
 // One group: the table of labels, the reader and the writer.
+#![tactic(auto)]
+
 mod fields;
 mod find;
 mod modes;
@@ -16,7 +18,7 @@ ghost use Rattle.groups.specs.Place.{place_of};
 ghost use Rattle.groups.specs.Numbers.{number_of, number_of_refusal, number_of_writing};
 ghost use Rattle.groups.specs.Writing.{writing, Wrote};
 
-#[derive(Drop)]
+#[derive(Clone, Copy)]
 pub enum Mode {
     Historic,
     Standard,
@@ -24,7 +26,7 @@ pub enum Mode {
 }
 
 // Why a group, or its fields, are refused.
-#[derive(Drop)]
+#[derive(Clone, Copy)]
 pub enum Refusal {
     TooLong,
     Misshapen,
@@ -37,21 +39,21 @@ pub enum Refusal {
     ModeUnknown,
 }
 
-#[derive(Drop)]
+#[derive(Clone, Copy)]
 pub enum Verdict {
     Accepted,
     Refused(Refusal),
 }
 
 // A part of the content: `length` bytes from place `start` on.
-#[derive(Drop)]
+#[derive(Clone, Copy)]
 pub struct Stretch {
     pub start: usize,
     pub length: usize,
 }
 
 // What judging shows: the verdict, and where in the content the three fields stand.
-#[derive(Drop)]
+#[derive(Clone, Copy)]
 pub struct Judged {
     pub verdict: Verdict,
     pub label: Stretch,
@@ -61,20 +63,20 @@ pub struct Judged {
 
 // What judging tells: what it shows, and the place in the content, counted from 0, where a refused stamp or refused data
 // went wrong (M-104); 0 where the verdict is another.
-#[derive(Drop)]
+#[derive(Clone, Copy)]
 pub struct Judgement {
     pub judged: Judged,
     pub place: usize,
 }
 
-#[derive(Drop)]
+#[derive(Clone, Copy)]
 pub enum Outcome {
     Done,
     Refused(Refusal),
 }
 
 // What writing tells: how it ended, and how many bytes it wrote.
-#[derive(Drop)]
+#[derive(Clone, Copy)]
 pub struct Written {
     pub outcome: Outcome,
     pub count: usize,

@@ -5,7 +5,7 @@ ghost use Rattle.groups.specs.Inside.{chosen_of};
 
 use crate::Mode;
 
-#[derive(Drop)]
+#[derive(Clone, Copy)]
 pub(crate) enum Chosen {
     Known(Mode),
     Unknown,

@@ -29,7 +29,7 @@ pub(crate) fn sum(text: &[u8]) -> u32
 
 // What a walk over characters found: the place of the first of a code, the length where there is none, and the sum of
 // those that it went over.
-#[derive(Drop)]
+#[derive(Clone, Copy)]
 pub struct Walked {
     pub first: usize,
     pub sum: u32,
@@ -197,7 +197,7 @@ fn finish(rule: Rule, label: &[u8], stamp: &[u8], data: &[u8]) -> Judgement
 }
 
 // Where the stamp of a body ends, 0 where the label has none; or a stamped label's body that is not parted.
-#[derive(Drop)]
+#[derive(Clone, Copy)]
 pub(crate) enum Parted {
     At(usize),
     Unparted,

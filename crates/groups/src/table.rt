@@ -14,7 +14,7 @@ ghost use Rattle.groups.specs.Formats.{form_of};
 ghost use Rattle.groups.specs.Stored.{form_in, format_at};
 
 // Data kinds, document 01's letters in this order: N, decimal digits; X, digits and A to F; T, any of space to tilde.
-#[derive(Drop)]
+#[derive(Clone, Copy)]
 pub enum Kind {
     Digits,
     Hex,
@@ -22,7 +22,7 @@ pub enum Kind {
 }
 
 // No stamp; a stamp with a season letter; a stamp with a space for its season.
-#[derive(Drop)]
+#[derive(Clone, Copy)]
 pub enum Mark {
     Unstamped,
     Letter,
@@ -30,20 +30,20 @@ pub enum Mark {
 }
 
 // What a label asks of stamp and data: data of one kind and one width, or data of one of some forms and no stamp.
-#[derive(Drop)]
+#[derive(Clone, Copy)]
 pub enum Rule {
     Plain(Plain),
     Formed(Forms),
 }
 
-#[derive(Drop)]
+#[derive(Clone, Copy)]
 pub struct Plain {
     pub width: usize,
     pub kind: Kind,
     pub mark: Mark,
 }
 
-#[derive(Drop)]
+#[derive(Clone, Copy)]
 pub struct Forms {
     pub smallest: usize,
     pub largest: usize,
@@ -51,7 +51,7 @@ pub struct Forms {
     pub count: u8,
 }
 
-#[derive(Drop)]
+#[derive(Clone, Copy)]
 pub(crate) struct Row(pub u64, pub u64, pub u64);
 
 pub(crate) const HISTORIC_1: [Row; 9] = [
@@ -309,7 +309,7 @@ pub(crate) const BUSINESS_9: [Row; 9] = [
 // A form: the fewest and the most characters of such data, and their picture. In a picture 9 stands for a digit, 0 for a
 // digit or A to F, * for any of space to tilde, a comma for a comma or a point, and any other character for itself. It
 // stands at the end of its room, since data that are shorter stand against its end.
-#[derive(Drop)]
+#[derive(Clone, Copy)]
 pub(crate) struct Form(pub usize, pub usize, pub [u8; 21]);
 
 // The form of a number; one that takes nothing where there is none.

@@ -10,20 +10,20 @@ use lib.ListN.{length, get_or, set, take, drop, length-drop}
 use lib.Seq.{drop-cons, drop-drop, take_all}
 use lib.Dec.{T, eqb, leb}
 use borrow.Author.Tests.{lt-ltb, le-ltb, ne_eqb, eqb-true, leb-true}
-use Rattle.groups.specs.Laws.Tests.{split}
+use Rattle.groups.proofs.Laws.Tests.{split}
 use Rattle.characters.specs.Answers.{pick}
 use Rattle.characters.specs.Passing.{Pass}
 use Rattle.characters.specs.Wire.{is_sound, character_of, wire_byte_of, STX, HT, LF, SP}
-use Rattle.characters.specs.WireLaws.{control_wires, sound_exactly, wire_character}
-use Rattle.line.specs.Laws.Written.{wire_symbol}
+use Rattle.characters.proofs.WireLaws.{control_wires, sound_exactly, wire_character}
+use Rattle.line.proofs.Laws.Written.{wire_symbol}
 use Rattle.line.specs.Symbols.{sound_symbol, symbol_of}
 use Rattle.line.specs.Rules.{move}
 use Rattle.line.specs.FrameNumbers.{frame_at}
 use Rattle.line.specs.ByBytes.{is}
-use Rattle.line.specs.Laws.LookingBack.{is_as, tests}
+use Rattle.line.proofs.Laws.LookingBack.{is_as, tests}
 use Rattle.line.specs.State.{phase_of, held_in, state_of}
 use Rattle.line.specs.Steps.{acted, quiet_of, Stepped, stepped, fed}
-use Rattle.line.specs.Views.{held_most, mode_kept, frame_kept, phase_back}
+use Rattle.line.proofs.Views.{held_most, mode_kept, frame_kept, phase_back}
 use Rattle.line.specs.Runs.{Adds, AddsOn, empty_run, is_plain_byte, Passes, Runs, RunsQuietly, Takes}
 use Rattle.line.specs.declared.LineState.{LineState}
 use Rattle.line.specs.declared.rules.Symbol.{Symbol}

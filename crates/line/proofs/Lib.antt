@@ -2,3 +2,6 @@
 pub mod Reactions
 pub mod Feeding
 pub mod InRows
+pub mod Laws
+pub mod Promises
+pub mod Views

@@ -13,7 +13,7 @@ use Rattle.line.specs.State.{state_of}
 use Rattle.groups.specs.Place.{judgement}
 use Rattle.groups.specs.declared.Judgement.{Judgement}
 use Rattle.line.specs.Steps.{heard_from, heard_of, ended_of, quiet_of, After, acted, Stepped}
-use Rattle.line.specs.Laws.Written.{cr_symbol}
+use Rattle.line.proofs.Laws.Written.{cr_symbol}
 use Rattle.line.specs.declared.LineState.{LineState}
 use Rattle.line.specs.declared.Notice.{Notice}
 use Rattle.line.specs.declared.Heard.{Heard}

@@ -12,5 +12,3 @@ pub mod State
 pub mod Steps
 pub mod Runs
 pub mod Views
-pub mod Laws
-pub mod Promises

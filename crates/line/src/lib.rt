@@ -3,6 +3,7 @@
 // What a line keeps is a small struct of numbers, which goes in and comes back by value, and beside it the 128 bytes of
 // its group's content, which the caller lends. Only `feed` takes bytes: those that give no answer in a row where it can,
 // and every other one by `step`.
+#![tactic(auto)]
 mod frames;
 mod rows;
 mod rules;

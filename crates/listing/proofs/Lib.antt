@@ -2,3 +2,5 @@
 pub mod Laying
 pub mod Lines
 pub mod Pieces
+pub mod Laws
+pub mod Promises

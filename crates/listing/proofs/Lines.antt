@@ -7,11 +7,11 @@ use lib.ListN.{length, length-take, length-drop, length-append}
 use Rattle.characters.specs.Wire.{LF}
 use Rattle.groups.specs.Groups.{group_of}
 use Rattle.groups.specs.Judging.{part_of}
-use Rattle.groups.specs.Laws.Shown.{part_inside}
+use Rattle.groups.proofs.Laws.Shown.{part_inside}
 use Rattle.groups.specs.declared.Stretch.{Stretch}
 use Rattle.line.specs.Numbers.{number_of, number_of_notice, place_of, place_of_notice}
 use Rattle.line.specs.Views.{FieldsInside}
-use Rattle.line.specs.Laws.Heard.{heard_nothing, heard_told, heard_accepted}
+use Rattle.line.proofs.Laws.Heard.{heard_nothing, heard_told, heard_accepted}
 use Rattle.line.specs.declared.Fields.{Fields}
 use Rattle.line.specs.declared.Notice.{Notice}
 use Rattle.line.specs.declared.Heard.{Heard}

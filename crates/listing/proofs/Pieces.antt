@@ -8,9 +8,10 @@ use lib.Seq.{take-add, take_all}
 use Rattle.line.specs.Lines.{State, after, until_answer}
 use Rattle.line.specs.State.{line_of}
 use Rattle.line.specs.Steps.{Fed, fed}
-use Rattle.line.specs.Views.{FieldsInside, FedView, fed_view, until_most, until_some}
-use Rattle.line.specs.Laws.Bytes.{after_append}
-use Rattle.line.specs.Laws.Until.{after_none}
+use Rattle.line.specs.Views.{FieldsInside}
+use Rattle.line.proofs.Views.{FedView, fed_view, until_most, until_some}
+use Rattle.line.proofs.Laws.Bytes.{after_append}
+use Rattle.line.proofs.Laws.Until.{after_none}
 use Rattle.line.specs.declared.LineState.{LineState}
 use Rattle.line.specs.declared.Taken.{Taken}
 use Rattle.listing.specs.Listing.{lines_for}

@@ -2,5 +2,3 @@
 pub mod Listing
 pub mod Shown
 pub mod Parts
-pub mod Laws
-pub mod Promises

@@ -6,6 +6,7 @@
 //
 // The capture is read in pieces. From one piece to the next goes only what a line keeps, so a capture of any length is
 // listed in the same small room, and a line that is still being captured is listed as it comes.
+#![tactic(auto)]
 mod text;
 
 ghost use Rattle.std.specs.Prelude.{◌≡◌, ◌≤◌, length};

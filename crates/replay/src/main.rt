@@ -15,6 +15,7 @@
 // usage: ./espandim replay < LOG
 //
 // What it is run on, and what it must write, is made from the calls in calls.tsv by the script `make`.
+#![tactic(auto)]
 mod input;
 mod output;
 

@@ -9,7 +9,8 @@ use borrow.Author.Tests.{lt-ltb, le-ltb, le-leb, lt-leb, eq-eqb, ne_eqb}
 use Rattle.characters.specs.Answers.{Answer, refused, given, need, pick}
 use Rattle.station.specs.Lines.{waiting, oldest, over, filling}
 use Rattle.station.specs.Stations.{zero_line, line_at, with_line, called, filled_at, delivering}
-use Rattle.station.specs.Laws.Views.{waiting_most, waiting_at, line_left}
+use Rattle.station.proofs.Laws.Views.{waiting_most, waiting_at}
+use Rattle.station.specs.Parts.{line_left}
 use Rattle.station.specs.Records.{StationLine, Station}
 use Rattle.station.specs.declared.Refusal.{Refusal}
 use Rattle.station.specs.declared.Refusal.TheVariants.{NoRoom, LineClosed}
@@ -17,7 +18,7 @@ use Rattle.station.specs.declared.Reply.{Reply}
 use Rattle.station.specs.declared.Reply.TheVariants.{Done, Refused}
 use Rattle.station.proofs.Copying.{paste_over}
 use Rattle.station.specs.Memory.{of_rows, line_from, lines_from, station_in, Sized}
-use Rattle.station.specs.Laws.Memory.{row_inside, line_at_lem, line_set}
+use Rattle.station.proofs.Laws.Memory.{row_inside, line_at_lem, line_set}
 use Rattle.station.specs.CallContracts.{called_as, Delivers}
 use Rattle.station.specs.Parts.{Waits, WaitsBy, reply_to, Fills}
 

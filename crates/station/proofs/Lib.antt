@@ -8,3 +8,8 @@ pub mod Serving
 pub mod Typed
 pub mod Rounding
 pub mod RowsServing
+pub mod Laws
+pub mod Demands
+pub mod Figures
+pub mod Fixed
+pub mod CallContracts

@@ -12,10 +12,10 @@ use Rattle.line.specs.declared.Opening.{Opening}
 use Rattle.line.specs.declared.Opening.TheVariants as line
 use Rattle.station.specs.Lines.{opened_as}
 use Rattle.station.specs.Stations.{line_at, called, opening, delivering}
-use Rattle.station.specs.Laws.Refusals.{opening_no_line, delivering_no_line}
+use Rattle.station.proofs.Laws.Refusals.{opening_no_line, delivering_no_line}
 use Rattle.station.specs.Records.{StationLine, Station}
 use Rattle.station.specs.Memory.{of_rows, line_from, lines_from, station_in, Sized}
-use Rattle.station.specs.Laws.Memory.{row_inside, line_at_lem, line_set}
+use Rattle.station.proofs.Laws.Memory.{row_inside, line_at_lem, line_set}
 use Rattle.station.specs.CallContracts.{called_as, Opens}
 use Rattle.station.specs.Parts.{OpensRows}
 use Rattle.station.specs.declared.Refusal.TheVariants.{LineUnknown, ModeUnknown}

@@ -9,12 +9,12 @@ use Rattle.line.specs.declared.Heard.{Heard}
 use Rattle.station.specs.Lines.{turning}
 use Rattle.station.specs.Stations.{zero_line}
 use Rattle.station.specs.Parts.{Turns, entry_heard, offset_heard}
-use Rattle.station.specs.Laws.Views.{Longs, no_lines, one_line}
+use Rattle.station.proofs.Laws.Views.{Longs, no_lines, one_line}
 use Rattle.station.specs.Records.{StationLine}
 use Rattle.station.proofs.Turns.{closed_turn}
 use Rattle.station.proofs.Serving.{Progress, served_from, serve_more, ZerosFrom, serve_none}
 use Rattle.station.specs.Memory.{Memory, line_from, lines_from, station_in, Wide, one_row, Sized}
-use Rattle.station.specs.Laws.Memory.{line_at_lem, line_set}
+use Rattle.station.proofs.Laws.Memory.{line_at_lem, line_set}
 
 -- as many lines as rows
 lines_many : (n : ℕ) (ms ps cs bs : List (List ℕ)) → length ms ≡ n → length ps ≡ n → length cs ≡ n → length bs ≡ n

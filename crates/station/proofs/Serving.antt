@@ -11,7 +11,7 @@ use Rattle.line.specs.State.{frame_of}
 use Rattle.line.specs.Steps.{heard_answer}
 use Rattle.line.specs.Views.{FieldsInside}
 use Rattle.line.specs.Numbers.{shown_if}
-use Rattle.line.specs.Laws.Heard.{heard_nothing, heard_told, heard_accepted}
+use Rattle.line.proofs.Laws.Heard.{heard_nothing, heard_told, heard_accepted}
 use Rattle.line.specs.declared.Heard.{Heard}
 use Rattle.line.specs.declared.Heard.TheVariants as heard
 use Rattle.station.specs.Lines.{over, turning}
@@ -19,7 +19,7 @@ use Rattle.station.specs.Stations.{zero_line}
 use Rattle.station.specs.Sheets.{Told, entry_of, offset_of, two_bytes, offsets, joined, entries}
 use Rattle.station.specs.Rounds.{tells}
 use Rattle.station.specs.Parts.{entry_heard, offset_heard, told_by, ServesLines}
-use Rattle.station.specs.Laws.Views.{Long, Longs, one_line, turn_view, turn_short}
+use Rattle.station.proofs.Laws.Views.{Long, Longs, one_line, turn_view, turn_short}
 use Rattle.station.specs.Records.{StationLine, Turned}
 use Rattle.station.proofs.Copying.{paste_over}
 

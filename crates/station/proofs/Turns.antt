@@ -7,15 +7,15 @@ use lib.ListN.{length, take, drop, length-take}
 use lib.Seq.{take_all, take-take}
 use borrow.Author.Tests.{lt-ltb, le-ltb, eq-eqb, ne_eqb}
 use Rattle.characters.specs.Answers.{pick}
-use Rattle.groups.specs.Laws.Tests.{split}
+use Rattle.groups.proofs.Laws.Tests.{split}
 use Rattle.line.specs.State.{line_of}
 use Rattle.line.specs.Steps.{fed}
-use Rattle.line.specs.Views.{fed_view, until_most}
+use Rattle.line.proofs.Views.{fed_view, until_most}
 use Rattle.line.specs.declared.Taken.{Taken}
 use Rattle.line.specs.declared.Heard.TheVariants.{Nothing}
 use Rattle.station.specs.Lines.{waiting, most_in_turn, turning}
 use Rattle.station.specs.Parts.{Waits, end_of, Turns}
-use Rattle.station.specs.Laws.Views.{Long}
+use Rattle.station.proofs.Laws.Views.{Long}
 use Rattle.station.specs.Records.{StationLine}
 
 -- a closed line has no turn

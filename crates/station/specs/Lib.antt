@@ -2,7 +2,6 @@
 -- of calls; the demands.
 pub mod Records
 pub mod Memory
-pub mod Fixed
 pub mod Numbers
 pub mod Lines
 pub mod Stations
@@ -14,6 +13,3 @@ pub mod OneLine
 pub mod Due
 pub mod Parts
 pub mod CallContracts
-pub mod Laws
-pub mod Figures
-pub mod Demands

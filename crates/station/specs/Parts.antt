@@ -15,7 +15,6 @@ use Rattle.station.specs.Lines.{waiting, oldest, over, opened_as, filling, most_
 use Rattle.station.specs.Sheets.{Told as TurnTold, entry_of, two_bytes, offsets, joined, entries}
 use Rattle.station.specs.Rounds.{tells}
 use Rattle.station.specs.Memory.{line_from}
-use Rattle.station.specs.Laws.Views.{line_left}
 use Rattle.station.specs.Records.{StationLine, Turned}
 use Rattle.station.specs.declared.Refusal.{Refusal}
 use Rattle.station.specs.declared.Reply.{Reply}
@@ -46,6 +45,11 @@ OpensRows marks places state marks' places' =
 abbrev pub reply_to : Answer Refusal StationLine → Reply
 reply_to (given l) = Done
 reply_to (refused refusal) = Refused refusal
+
+-- the line after a call for it, which a refusal leaves as it was
+abbrev pub line_left : StationLine → Answer Refusal StationLine → StationLine
+line_left l (given next) = next
+line_left l (refused refusal) = l
 
 -- a delivery to a line: the reply, and the line afterwards
 pub record Fills (l : StationLine) (bytes : List ℕ) (reply : Reply) (after : StationLine) : Type 0 where

@@ -9,6 +9,7 @@
 //
 // Zeros are the station with all lines closed. A contract speaks of the memory before and after: `before` and `after`
 // gather the four arrays, as they are at entry and at exit.
+#![tactic(auto)]
 mod copy;
 mod inbox;
 mod known;

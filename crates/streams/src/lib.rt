@@ -3,6 +3,7 @@
 // status 1 where something was said.
 //
 // What comes in and whether it goes out is up to the system, so no contract can fix these two results.
+#![tactic(auto)]
 ghost use Rattle.std.specs.Prelude.{length, ◌≡◌, true};
 ghost use Rattle.libc.specs.Io.{Moved};
 

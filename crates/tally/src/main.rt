@@ -7,6 +7,7 @@
 // The fitter sees from it how noisy a line is; and since it does little but take bytes, bench/run measures the line's
 // loop by it. It is proved to be safe and to end. Where a test could be left out, since what it asks always holds, the
 // test spares the proof of that.
+#![tactic(auto)]
 ghost use Rattle.std.specs.Prelude.{◌≡◌, ◌+◌, ◌<◌, ◌≤◌};
 
 use line::{LineState, Opening};

@@ -5,6 +5,7 @@
 //
 // Lines are gathered on a page and written when it is full, and when all that was read is shown: a line that is still
 // being captured is shown as it comes, and a long capture takes few writes.
+#![tactic(auto)]
 ghost use Rattle.std.specs.Prelude.{◌≡◌, ◌+◌, ◌<◌, ◌≤◌, length};
 
 use characters::{CR, EOT, ETX, HT, LF, SP, STX};

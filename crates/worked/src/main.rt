@@ -5,6 +5,7 @@
 // The records, and the lines to expect of them, are made from the cases in groups.tsv by the script `make`.
 //
 // usage: ./espandim worked < RECORDS
+#![tactic(auto)]
 ghost use Rattle.std.specs.Prelude.{◌<◌};
 
 use characters::{CR, LF};

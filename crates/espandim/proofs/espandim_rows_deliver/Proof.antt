@@ -2,7 +2,7 @@
 use Rattle.espandim.proofs.Telling.{call_told}
 use Rattle.station.proofs.Openings.{deliver_no_line}
 use Rattle.station.specs.History.{delivers}
-use Rattle.station.specs.Laws.Refusals.{delivers_called}
+use Rattle.station.proofs.Laws.Refusals.{delivers_called}
 use mathlib.Core.Path.{refl}
 use Rattle.station.specs.Memory.{Memory, behind, station_in}
 use borrow.Author.Rules.{rules}

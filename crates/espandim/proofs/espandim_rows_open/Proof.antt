@@ -3,7 +3,7 @@ use Rattle.espandim.proofs.Telling.{call_told}
 use Rattle.station.proofs.Openings.{open_no_line}
 use Rattle.station.specs.History.{opens}
 use Rattle.station.specs.Stations.{called}
-use Rattle.station.specs.Laws.Refusals.{opening_no_mode, opens_called}
+use Rattle.station.proofs.Laws.Refusals.{opening_no_mode, opens_called}
 use mathlib.Core.Path.{refl, sym, ap}
 use native.Mathlib.Omega.{arith}
 use Rattle.station.specs.Memory.{Memory, behind, station_in}

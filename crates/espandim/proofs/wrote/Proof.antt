@@ -4,7 +4,7 @@ use Rattle.groups.specs.Groups.{group_of}
 use Rattle.groups.specs.Writing.{writing}
 use Rattle.groups.specs.declared.Refusal.TheVariants.{ModeUnknown}
 use Rattle.espandim.proofs.Telling.{wrote_for}
-use Rattle.groups.specs.Laws.Unknown.{writing_no_mode}
+use Rattle.groups.proofs.Laws.Unknown.{writing_no_mode}
 use lib.ListN.{length}
 use mathlib.Core.Path.{refl}
 use native.Mathlib.Omega.{arith}

@@ -3,7 +3,7 @@ use borrow.Author.Rules.{rules}
 use mathlib.Core.Path.{ap}
 use native.Mathlib.Omega.{arith}
 use Rattle.line.specs.FrameNumbers.{frame_at}
-use Rattle.line.specs.Laws.FrameNumbers.{at_other}
+use Rattle.line.proofs.Laws.FrameNumbers.{at_other}
 use Rattle.line.proofs.InRows.{is_stx, not_stx}
 use Rattle.line.proofs.frames.after.Statement.{statement}
 use Rattle.line.proofs.frames.after.Tie as tie

@@ -1,7 +1,7 @@
 -- The last number is followed by the first, and every other by the next.
 use borrow.Author.Rules.{rules}
 use native.Mathlib.Omega.{arith}
-use Rattle.line.specs.Laws.FrameNumbers.{next_last, next_other}
+use Rattle.line.proofs.Laws.FrameNumbers.{next_last, next_other}
 use Rattle.line.proofs.frames.next.Statement.{statement}
 use Rattle.line.proofs.frames.next.Tie as tie
 

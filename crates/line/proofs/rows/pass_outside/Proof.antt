@@ -6,7 +6,7 @@ use native.Mathlib.Omega.{arith}
 use Rattle.line.specs.Runs.{Passes}
 use Rattle.line.specs.declared.rules.Phase.TheVariants.{Outside}
 use Rattle.line.proofs.InRows.{not_stx, passes_none, passes_other, passes_quiet}
-use Rattle.line.specs.Laws.FrameNumbers.{at_other}
+use Rattle.line.proofs.Laws.FrameNumbers.{at_other}
 use Rattle.line.proofs.rows.pass_outside.Statement.{statement}
 use Rattle.line.proofs.rows.pass_outside.Tie as tie
 

@@ -1,7 +1,7 @@
 -- Damaged, too long, or what the reader says.
 use borrow.Author.Rules.{rules}
 use Rattle.characters.specs.Answers.{pick}
-use Rattle.groups.specs.Laws.Place.{placed_small}
+use Rattle.groups.proofs.Laws.Place.{placed_small}
 use Rattle.groups.specs.Place.{judgement}
 use Rattle.groups.specs.declared.Judgement.{Judgement}
 use Rattle.groups.specs.declared.Verdict.{Verdict}

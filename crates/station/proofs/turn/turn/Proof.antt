@@ -4,7 +4,7 @@ use Rattle.station.proofs.Turns.{end_places, took_few, turn_closed, turn_open}
 use Rattle.station.specs.Lines.{most_in_turn}
 use Rattle.station.specs.Parts.{Waits}
 use Rattle.station.specs.Memory.{rows_behind}
-use Rattle.station.specs.Laws.Views.{Long}
+use Rattle.station.proofs.Laws.Views.{Long}
 use Rattle.station.specs.Records.{StationLine}
 use borrow.Author.Rules.{rules}
 use mathlib.Core.Path.{refl}

@@ -1,0 +1,15 @@
+-- What is left decides: the place is that in what is left, and the characters gone over.
+use Prim.Native.Nat.{◌+◌, ◌-◌, ◌≤◌}
+use Rattle.groups.proofs.Pictures.{agreed_here, agreed_on, agreed_over}
+use Rattle.groups.specs.Place.{agreed}
+use borrow.Author.Rules.{rules}
+use lib.ListN.{drop, length}
+use mathlib.Core.Path.{◌∙◌, ◌≡◌, sym}
+use native.Mathlib.Omega.{arith}
+use Rattle.groups.proofs.fields.agreed.Given as goal
+
+abbrev pub invariant-loop-i : goal.invariant-loop-i
+invariant-loop-i l = (l.i ≤ length l.«data») × (length l.picture ≡ length l.«data») × (agreed l.picture l.«data» ≡ l.i + agreed (drop l.i l.picture) (drop l.i l.«data»))
+
+abbrev pub decreases-loop-i : goal.decreases-loop-i
+decreases-loop-i l = length l.«data» - l.i

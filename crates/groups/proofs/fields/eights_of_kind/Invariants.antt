@@ -1,0 +1,15 @@
+-- Eight that are of the kind are eight more.
+use Prim.Native.Nat.{◌-◌}
+use Rattle.groups.proofs.Walks.{right_further}
+use Rattle.groups.specs.Inside.{RightUpTo}
+use Rattle.groups.specs.Kinds.{of_kind}
+use borrow.Author.Rules.{rules}
+use lib.ListN.{length}
+use native.Mathlib.Omega.{arith}
+use Rattle.groups.proofs.fields.eights_of_kind.Given as goal
+
+abbrev pub invariant-loop-i : goal.invariant-loop-i
+invariant-loop-i l = RightUpTo (of_kind l.kind) l.text l.i
+
+abbrev pub decreases-loop-i : goal.decreases-loop-i
+decreases-loop-i l = length l.text - l.i

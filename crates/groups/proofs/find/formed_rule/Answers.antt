@@ -1,0 +1,13 @@
+-- The row is asked for the label's numbers.
+use Rattle.characters.specs.Answers.{pick}
+use borrow.Author.Rules.{rules}
+use mathlib.Core.Path.{◌∙◌, sym}
+use Rattle.groups.proofs.find.formed_rule.Goals as goal
+
+pub returns-then-is_named : goal.returns-then-is_named
+unfolding pick
+returns-then-is_named c = rw (sym c.is_named.ensures ∙ c.if-is_named.true)
+
+pub returns : goal.returns
+unfolding pick
+returns c = rw (sym c.is_named.ensures ∙ c.if-is_named.false)

@@ -1,0 +1,13 @@
+-- The first eight bytes of the text, cut to the label; byte by byte where there are not so many.
+use Rattle.groups.proofs.Keys.{key_cut}
+use borrow.Author.Rules.{rules}
+use mathlib.Core.Path.{◌∙◌}
+use native.Mathlib.Omega.{arith}
+use Rattle.groups.proofs.find.key_of.Goals as goal
+
+pub returns-then-text-lt8 : goal.returns-then-text-lt8
+returns-then-text-lt8 c = c.key_by_bytes.ensures
+
+pub returns : goal.returns
+returns c = c.cut.ensures ∙ rw c.first_eight.ensures
+    (key_cut c.args.text.now c.if-text-lt8.false (λ i. omega (arith, c.type_inv.text i)) c.args.n)

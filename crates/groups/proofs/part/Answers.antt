@@ -1,0 +1,27 @@
+-- A part that fits, and the empty part where it does not.
+-- a part at the start lies where the content does
+use Prim.Native.Nat.{ℕ, ◌+◌, ◌-◌}
+use Rattle.characters.specs.Answers.{pick}
+use Rattle.groups.specs.Judging.{part_of, part_start}
+use borrow.Author.Rules.{rules}
+use borrow.Author.Tests.{le-leb, lt-leb}
+use lib.ListN.{length}
+use mathlib.Core.Path.{◌≡◌}
+use native.Mathlib.Omega.{arith}
+use Rattle.groups.proofs.part.Goals as goal
+
+pub returns-then-content-start : goal.returns-then-content-start
+unfolding part_of part_start pick
+returns-then-content-start c = let over = lt-leb (c.args.stretch.start + c.args.stretch.length) (length c.args.content.now) (omega arith) in
+    record { lies = rw over (at-start c.args.content.ptr); bytes = rw over }
+
+pub returns-then-content-start-2 : goal.returns-then-content-start-2
+unfolding part_of part_start pick
+returns-then-content-start-2 c = let over = lt-leb (c.args.stretch.start + c.args.stretch.length) (length c.args.content.now) (omega arith) in
+    record { lies = rw over (at-start c.args.content.ptr); bytes = rw over }
+
+pub returns : goal.returns
+unfolding part_of part_start pick
+returns c = let e : c.args.stretch.start + c.args.stretch.length - c.args.stretch.start ≡ c.args.stretch.length = omega arith in
+    let fits = le-leb (c.args.stretch.start + c.args.stretch.length) (length c.args.content.now) (omega arith) in
+    record { lies = rw fits; bytes = rw (e, fits) }

@@ -1,0 +1,14 @@
+-- Eight that lie between the texts are eight more.
+use Prim.Native.Nat.{◌+◌, ◌-◌, ◌≤◌}
+use Rattle.characters.specs.Answers.{from_true}
+use Rattle.groups.proofs.Between.{between_joined, between_none}
+use Rattle.groups.specs.Stored.{Between}
+use borrow.Author.Rules.{rules}
+use native.Mathlib.Omega.{arith}
+use Rattle.groups.proofs.quick.eights_between.Given as goal
+
+abbrev pub invariant-loop-i : goal.invariant-loop-i
+invariant-loop-i l = (l.i ≤ l.n) × Between l.low l.high l.«data» 0 l.i
+
+abbrev pub decreases-loop-i : goal.decreases-loop-i
+decreases-loop-i l = l.n - l.i

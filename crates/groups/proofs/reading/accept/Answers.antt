@@ -1,0 +1,6 @@
+-- The stretches follow from the lengths.
+use borrow.Author.Rules.{rules}
+use Rattle.groups.proofs.reading.accept.Goals as goal
+
+pub returns : goal.returns
+returns c = rw (c.stamp_stretch.ensures, c.stamp_span-span.ensures.0)

@@ -1,0 +1,16 @@
+-- What is left decides the place; what was gone over is summed.
+use Prim.Native.Nat.{◌*◌, ◌+◌, ◌-◌, ◌≤◌}
+use Rattle.groups.proofs.Walks.{first_here, first_on, first_over, total_upto}
+use Rattle.groups.specs.Conditions.{first_at}
+use Rattle.groups.specs.Groups.{total}
+use borrow.Author.Rules.{rules}
+use lib.ListN.{drop, length, take}
+use mathlib.Core.Path.{◌≡◌}
+use native.Mathlib.Omega.{arith}
+use Rattle.groups.proofs.reading.walk_label.Given as goal
+
+abbrev pub invariant-loop-i : goal.invariant-loop-i
+invariant-loop-i l = (l.i ≤ length l.text) × (first_at l.code l.text ≡ l.i + first_at l.code (drop l.i l.text)) × (l.sum ≡ total (take l.i l.text)) × (l.sum ≤ 255 * l.i)
+
+abbrev pub decreases-loop-i : goal.decreases-loop-i
+decreases-loop-i l = length l.text - l.i
