@@ -6,7 +6,7 @@ use mathlib.Core.Path.{◌∙◌, sym}
 use Rattle.groups.proofs.is_mode.Goals as goal
 
 pub returns-in-Known : goal.returns-in-Known
-returns-in-Known c = known_some (mode_of c.args.number) _ (sym c.Mode-of.ensures ∙ c.in-Known.is)
+returns-in-Known c = known_some (mode_of c.args.number) _ (sym c.mode_of-chosen.ensures ∙ c.in-Known.is)
 
 pub returns-in-Unknown : goal.returns-in-Unknown
-returns-in-Unknown c = known_none (mode_of c.args.number) (sym c.Mode-of.ensures ∙ c.in-Unknown.is)
+returns-in-Unknown c = known_none (mode_of c.args.number) (sym c.mode_of-chosen.ensures ∙ c.in-Unknown.is)

@@ -7,8 +7,8 @@ use Rattle.groups.proofs.judge.Goals as goal
 
 pub returns-in-Known : goal.returns-in-Known
 returns-in-Known c = c.read.ensures ∙ told_in c.args.mode _ c.args.content.now (chosen_some _ _ (sym
-    c.Mode-of.ensures ∙ c.in-Known.is))
+    c.mode_of-chosen.ensures ∙ c.in-Known.is))
 
 pub returns-in-Unknown : goal.returns-in-Unknown
 returns-in-Unknown c = c.refuse.ensures ∙ told_no_mode c.args.mode c.args.content.now (chosen_none _ (sym
-    c.Mode-of.ensures ∙ c.in-Unknown.is))
+    c.mode_of-chosen.ensures ∙ c.in-Unknown.is))

@@ -1,5 +1,5 @@
 -- What is divided away is made 0.
-use Prim.Native.Nat.{◌-◌}
+use Prim.Native.Nat.{◌-◌, ◌≤◌}
 use Rattle.groups.proofs.Keys.{past}
 use borrow.Author.Rules.{rules}
 use mathlib.Core.Path.{◌≡◌}
@@ -31,6 +31,6 @@ pub returns-in-7 : goal.returns-in-7
 returns-in-7 c = rw c.in-7.is
 
 pub returns-in_default : goal.returns-in_default
-returns-in_default c = let h = past 8 _ c.in_default in
+returns-in_default c = let h : 8 ≤ c.args.n = omega arith in
     let z : 8 - c.args.n ≡ 0 = omega arith in
     rw z (omega arith)

@@ -1,4 +1,5 @@
 -- Each arm is the definition at its number.
+use Rattle.std.proofs.Common.{arith}
 use Rattle.characters.specs.Answers.{pick}
 use borrow.Author.Tests.{ne_eqb}
 use Rattle.groups.proofs.find.mark_in.Goals as goal
@@ -13,4 +14,4 @@ returns-in-1 c = rw c.in-1.is
 
 pub returns-in_default : goal.returns-in_default
 unfolding pick
-returns-in_default c = rw (ne_eqb c.args.number 0 c.in_default.0.1, ne_eqb c.args.number 1 c.in_default.1)
+returns-in_default c = rw (ne_eqb c.args.number 0 (omega arith), ne_eqb c.args.number 1 (omega arith))

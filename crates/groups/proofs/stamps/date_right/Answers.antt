@@ -1,5 +1,4 @@
 -- Past the test of the digits, every test is that of the definition.
--- what the code finds wrong behind the season tells whether all there are digits
 use Prim.Native.Nat.{◌-◌, ℕ}
 use Rattle.characters.specs.Answers.{every}
 use Rattle.groups.proofs.Walks.{to_end, two_digits_at, wrong_none}
@@ -16,6 +15,11 @@ use mathlib.Core.List.{List}
 use mathlib.Core.Path.{◌∙◌, ◌≡◌, sym}
 use native.Mathlib.Omega.{arith}
 use Rattle.groups.proofs.stamps.date_right.Goals as goal
+
+-- what the code finds wrong behind the season tells whether all there are digits
+module _ (s : List ℕ) (n : length s ≡ 13) {wrong : ℕ} (e : wrong ≡ wrong_at (of_kind Digits) (take (length s - 1) (drop 1 s))) where
+  tested : every (of_kind Digits) (drop 1 s) ≡ eqb wrong 12
+  tested = rw (e, to_end 1 s) (sym (wrong_none (of_kind Digits) (drop 1 s) 12 (simp length-drop (omega arith))))
 
   all_digits : wrong ≡ 12 → every (of_kind Digits) (drop 1 s) ≡ true
   all_digits w = tested ∙ eq-eqb _ _ w
@@ -51,17 +55,17 @@ two_digits-requires-5 c = let digits = all_digits c.args.stamp.now c.requires c.
 pub returns : goal.returns
 unfolding date_right
 returns c = rw (
-      c.lies_within-5.ensures,
-      c.two_digits-5.ensures.0,
-      c.lies_within-4.ensures,
-      c.two_digits-4.ensures.0,
-      c.lies_within-3.ensures,
-      c.two_digits-3.ensures.0,
-      c.lies_within-2.ensures,
-      c.two_digits-2.ensures.0,
-      c.lies_within.ensures,
-      c.days_in-days.ensures,
-      c.two_digits.ensures.0,
-      c.two_digits-month.ensures.0,
-      all_digits c.args.stamp.now c.requires c.wrong_at.ensures c.if-wrong_at-ne12.false,
-    )
+  c.lies_within-5.ensures,
+  c.two_digits-5.ensures.0,
+  c.lies_within-4.ensures,
+  c.two_digits-4.ensures.0,
+  c.lies_within-3.ensures,
+  c.two_digits-3.ensures.0,
+  c.lies_within-2.ensures,
+  c.two_digits-2.ensures.0,
+  c.lies_within.ensures,
+  c.days_in-days.ensures,
+  c.two_digits.ensures.0,
+  c.two_digits-month.ensures.0,
+  all_digits c.args.stamp.now c.requires c.wrong_at.ensures c.if-wrong_at-ne12.false,
+)

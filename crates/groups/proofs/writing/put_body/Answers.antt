@@ -20,8 +20,8 @@ put-behind_separator-requires c = omega (
   arith,
   c.requires,
   body_long c.args.mode c.args.stamp.now c.args.«data».now _ (sym c.is_stamped.ensures ∙ c.if-is_stamped.true),
-  c.put_all_lem.ensures.upto,
-  laid_length c.put_all_lem.ensures,
+  c.put_all-behind_stamp.ensures.upto,
+  laid_length c.put_all-behind_stamp.ensures,
   length-map c.args.stamp.now wire_byte_of,
 )
 
@@ -30,15 +30,15 @@ put_all-requires c = omega (
   arith,
   c.requires,
   body_long c.args.mode c.args.stamp.now c.args.«data».now _ (sym c.is_stamped.ensures ∙ c.if-is_stamped.true),
-  c.put_all_lem.ensures.upto,
-  laid_length c.put_all_lem.ensures,
+  c.put_all-behind_stamp.ensures.upto,
+  laid_length c.put_all-behind_stamp.ensures,
   c.put-behind_separator.ensures.upto,
   laid_length c.put-behind_separator.ensures,
   length-map c.args.stamp.now wire_byte_of,
 )
 
 pub returns-then-is_stamped : goal.returns-then-is_stamped
-returns-then-is_stamped c = laid_as (laid_then c.put_all_lem.ensures (laid_then c.put-behind_separator.ensures
+returns-then-is_stamped c = laid_as (laid_then c.put_all-behind_stamp.ensures (laid_then c.put-behind_separator.ensures
     c.put_all.ensures)) (body_pieces c.args.mode c.args.stamp.now c.args.«data».now _ _ (sym
     c.is_stamped.ensures ∙ c.if-is_stamped.true) c.separator_of.ensures)
 

@@ -24,8 +24,8 @@ put-c-requires c = omega (
   c.requires,
   c.put-a.ensures.upto,
   laid_length c.put-a.ensures,
-  c.put_all_lem.ensures.upto,
-  laid_length c.put_all_lem.ensures,
+  c.put_all-b.ensures.upto,
+  laid_length c.put_all-b.ensures,
   length-map c.args.label.now wire_byte_of,
 )
 
@@ -35,8 +35,8 @@ put_body-d-requires c = omega (
   c.requires,
   c.put-a.ensures.upto,
   laid_length c.put-a.ensures,
-  c.put_all_lem.ensures.upto,
-  laid_length c.put_all_lem.ensures,
+  c.put_all-b.ensures.upto,
+  laid_length c.put_all-b.ensures,
   c.put-c.ensures.upto,
   laid_length c.put-c.ensures,
   length-map c.args.label.now wire_byte_of,
@@ -48,8 +48,8 @@ put-e-requires c = omega (
   c.requires,
   c.put-a.ensures.upto,
   laid_length c.put-a.ensures,
-  c.put_all_lem.ensures.upto,
-  laid_length c.put_all_lem.ensures,
+  c.put_all-b.ensures.upto,
+  laid_length c.put_all-b.ensures,
   c.put-c.ensures.upto,
   laid_length c.put-c.ensures,
   c.put_body-d.ensures.upto,
@@ -64,8 +64,8 @@ put-f-requires c = omega (
   c.requires,
   c.put-a.ensures.upto,
   laid_length c.put-a.ensures,
-  c.put_all_lem.ensures.upto,
-  laid_length c.put_all_lem.ensures,
+  c.put_all-b.ensures.upto,
+  laid_length c.put_all-b.ensures,
   c.put-c.ensures.upto,
   laid_length c.put-c.ensures,
   c.put_body-d.ensures.upto,
@@ -82,8 +82,8 @@ put-requires c = omega (
   c.requires,
   c.put-a.ensures.upto,
   laid_length c.put-a.ensures,
-  c.put_all_lem.ensures.upto,
-  laid_length c.put_all_lem.ensures,
+  c.put_all-b.ensures.upto,
+  laid_length c.put_all-b.ensures,
   c.put-c.ensures.upto,
   laid_length c.put-c.ensures,
   c.put_body-d.ensures.upto,
@@ -97,7 +97,7 @@ put-requires c = omega (
 )
 
 pub returns : goal.returns
-returns c = laid_as (laid_then c.put-a.ensures (laid_then c.put_all_lem.ensures (laid_then
+returns c = laid_as (laid_then c.put-a.ensures (laid_then c.put_all-b.ensures (laid_then
     c.put-c.ensures (laid_then c.put_body-d.ensures (laid_then c.put-e.ensures
     (laid_then c.put-f.ensures c.put.ensures)))))) (group_pieces c.args.mode
     c.args.label.now (body c.args.mode (is_stamped c.args.mark) c.args.stamp.now c.args.«data».now) _ _
