@@ -4,6 +4,7 @@
 // its group's content, which the caller lends. Only `feed` takes bytes: those that give no answer in a row where it can,
 // and every other one by `step`.
 #![tactic(auto)]
+
 mod frames;
 mod rows;
 mod rules;
@@ -20,7 +21,7 @@ use groups::{Refusal, Stretch};
 // What a line keeps, beside the bytes of its content. No call makes other values than those that `state` writes, and
 // every other value is read as one of them.
 #[repr(C)]
-#[derive(Drop)]
+#[derive(Clone, Copy)]
 pub struct LineState {
     pub mode: u8,
     pub phase: u8,
@@ -33,7 +34,7 @@ pub struct LineState {
 
 // What a line tells of its frames and groups, an accepted group apart. A refused group comes with the place in its content
 // that judging tells (M-104).
-#[derive(Drop)]
+#[derive(Clone, Copy)]
 pub enum Notice {
     FrameSound,
     FrameFlawed,
@@ -45,7 +46,7 @@ pub enum Notice {
 }
 
 // Where the fields of an accepted group stand in the lent content.
-#[derive(Drop)]
+#[derive(Clone, Copy)]
 pub struct Fields {
     pub label: Stretch,
     pub stamp: Stretch,
@@ -53,7 +54,7 @@ pub struct Fields {
 }
 
 // What a byte gave: no answer, an accepted group, or a notice.
-#[derive(Drop)]
+#[derive(Clone, Copy)]
 pub enum Heard {
     Nothing,
     Accepted(Fields),
@@ -62,7 +63,7 @@ pub enum Heard {
 
 // What became of a stretch of bytes: the line afterwards, how many bytes it took, and the answer that ended it, if any. The
 // number of the answer's frame is the one that the line has afterwards (M-108).
-#[derive(Drop)]
+#[derive(Clone, Copy)]
 pub struct Taken {
     pub line: LineState,
     pub count: usize,
@@ -70,7 +71,7 @@ pub struct Taken {
 }
 
 // An opening: the line as it starts, or no line, where the mode is not known.
-#[derive(Drop)]
+#[derive(Clone, Copy)]
 pub enum Opening {
     Opened(LineState),
     ModeUnknown,

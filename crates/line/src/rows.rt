@@ -17,7 +17,7 @@ use crate::rules::{Move, Phase, Symbol};
 use crate::{LineState, rules, state};
 
 // Where a line without content is behind the bytes that were taken, and how many they were.
-#[derive(Drop)]
+#[derive(Clone, Copy)]
 pub struct Passed {
     pub phase: Phase,
     pub count: usize,
@@ -25,7 +25,7 @@ pub struct Passed {
 
 // The same with the number of characters that the line's group holds then. A line is kept so, and not as its numbers, from
 // the bytes in a row to the byte behind them: to write the numbers in between costs more than to take a byte.
-#[derive(Drop)]
+#[derive(Clone, Copy)]
 pub struct Run {
     pub phase: Phase,
     pub held: u16,

@@ -6,7 +6,7 @@ ghost use Rattle.line.specs.Rules.{frame_end, move};
 use crate::Notice;
 
 // What a wire byte is to a line.
-#[derive(Drop)]
+#[derive(Clone, Copy)]
 pub enum Symbol {
     Stx,
     Etx,
@@ -19,7 +19,7 @@ pub enum Symbol {
 
 // Where a line is: outside; in a frame, flawed or not; in a group of a frame, flawed or not, that is damaged or not and
 // too long or not.
-#[derive(Drop)]
+#[derive(Clone, Copy)]
 pub enum Phase {
     Outside,
     Frame(bool),
@@ -28,7 +28,7 @@ pub enum Phase {
 
 // What a symbol does: it moves the line and gives no answer; it opens an empty group in a frame, flawed or not; it moves
 // the line and gives a notice; it adds a character to the group; it ends the group, which is then judged.
-#[derive(Drop)]
+#[derive(Clone, Copy)]
 pub enum Move {
     Quiet(Phase),
     Opens(bool),

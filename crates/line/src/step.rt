@@ -9,7 +9,7 @@ use crate::{Fields, Heard, LineState, Notice, rules, state};
 use groups::{Refusal, Verdict};
 
 // What a byte did: the line afterwards, and what it gave.
-#[derive(Drop)]
+#[derive(Clone, Copy)]
 pub struct Reaction {
     pub line: LineState,
     pub heard: Heard,

@@ -8,7 +8,7 @@ use crate::{Refusal, Reply, copy, known};
 use line::LineState;
 
 // Where the waiting bytes lie: from place `from` up to `to`.
-#[derive(Drop)]
+#[derive(Clone, Copy)]
 pub struct Span {
     pub from: usize,
     pub to: usize,

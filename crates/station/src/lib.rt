@@ -10,6 +10,7 @@
 // Zeros are the station with all lines closed. A contract speaks of the memory before and after: `before` and `after`
 // gather the four arrays, as they are at entry and at exit.
 #![tactic(auto)]
+
 mod copy;
 mod inbox;
 mod known;
@@ -37,7 +38,7 @@ pub type Inboxes = [[u8; 256]; 8];
 pub const SMALLEST_SHEET: usize = 1096;
 
 // Why a call is refused.
-#[derive(Drop)]
+#[derive(Clone, Copy)]
 pub enum Refusal {
     NoRoom,
     LineUnknown,
@@ -46,14 +47,14 @@ pub enum Refusal {
     ModeUnknown,
 }
 
-#[derive(Drop)]
+#[derive(Clone, Copy)]
 pub enum Reply {
     Done,
     Refused(Refusal),
 }
 
 // How many bytes each line's turn took, and what is told of the round itself.
-#[derive(Drop)]
+#[derive(Clone, Copy)]
 pub struct RoundTold {
     pub counts: [u8; 8],
     pub reply: Reply,

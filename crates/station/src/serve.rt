@@ -6,7 +6,7 @@ ghost use Rattle.station.specs.Parts.{ServesLines};
 use crate::{Contents, Inboxes, Marks, Places, known, sheet, turn};
 
 // The counts, and the offsets of the entries.
-#[derive(Drop)]
+#[derive(Clone, Copy)]
 pub struct Served {
     pub counts: [u8; 8],
     pub offsets: [u8; 16],

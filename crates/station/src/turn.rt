@@ -7,7 +7,7 @@ use crate::{inbox, known};
 use line::{Heard, LineState};
 
 // What a turn tells: how many bytes it took, what was heard at the last of them, and the number that the frame has then.
-#[derive(Drop)]
+#[derive(Clone, Copy)]
 pub struct Took {
     pub count: u8,
     pub heard: Heard,

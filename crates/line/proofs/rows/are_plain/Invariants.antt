@@ -1,0 +1,15 @@
+-- All that were gone over are plain, where no test failed.
+use Prim.Native.Nat.{◌-◌, ◌≤◌}
+use Rattle.characters.specs.Passing.{Pass, pass_none, pass_on}
+use Rattle.line.specs.Runs.{is_plain_byte}
+use borrow.Author.Rules.{rules}
+use mathlib.Core.Bool.{true}
+use mathlib.Core.Path.{◌≡◌}
+use native.Mathlib.Omega.{arith}
+use Rattle.line.proofs.rows.are_plain.Given as goal
+
+abbrev pub invariant-loop-i : goal.invariant-loop-i
+invariant-loop-i l = (l.from ≤ l.i) × (l.i ≤ l.end) × (l.plain ≡ true → Pass is_plain_byte l.bytes l.from l.i)
+
+abbrev pub decreases-loop-i : goal.decreases-loop-i
+decreases-loop-i l = l.end - l.i

@@ -1,0 +1,6 @@
+-- A line that tells nothing.
+use borrow.Author.Rules.{rules}
+use Rattle.line.proofs.step.quiet.Goals as goal
+
+pub returns : goal.returns
+returns c = rw c.state_of.ensures
