@@ -11,7 +11,7 @@ ghost use Rattle.groups.specs.Groups.{group_of};
 ghost use Rattle.groups.specs.Place.{judgement};
 ghost use Rattle.groups.specs.Writing.{writing, Wrote};
 ghost use Rattle.station.specs.History.{opens, delivers};
-ghost use Rattle.station.specs.Memory.{before, after};
+ghost use Rattle.station.specs.Memory.{behind};
 ghost use Rattle.espandim.specs.Calls.{Calls, Serves};
 ghost use Rattle.espandim.specs.OneGroup.{Judges, Writes};
 
@@ -28,8 +28,8 @@ pub extern "C" fn espandim_rows_open(
     line: u32,
     mode: u32,
 ) -> u32
-    ensures { Calls (before marks places contents inboxes) (opens line mode) result
-        (after marks places contents inboxes) }
+    ensures { Calls (behind marks.old places.old contents.now inboxes.now) (opens line mode) result
+        (behind marks.new places.new contents.now inboxes.now) }
 {
     if line < 8 {
         if mode < 256 {
@@ -51,8 +51,8 @@ pub extern "C" fn espandim_rows_deliver(
     line: u32,
     bytes: &[u8],
 ) -> u32
-    ensures { Calls (before marks places contents inboxes) (delivers line bytes.now) result
-        (after marks places contents inboxes) }
+    ensures { Calls (behind marks.now places.old contents.now inboxes.old) (delivers line bytes.now) result
+        (behind marks.now places.new contents.now inboxes.new) }
 {
     if line < 8 {
         let reply = station::deliver(marks, places, contents, inboxes, line as u8, bytes);
@@ -72,8 +72,8 @@ pub extern "C" fn espandim_rows_round(
     sheet: &mut [u8],
     counts: &mut [u8; 8],
 ) -> u32
-    ensures { Serves (before marks places contents inboxes) sheet.old result
-        (after marks places contents inboxes) sheet.new counts.new }
+    ensures { Serves (behind marks.old places.old contents.old inboxes.now) sheet.old result
+        (behind marks.new places.new contents.new inboxes.now) sheet.new counts.new }
 {
     let told = station::round(marks, places, contents, inboxes, sheet);
     let reply = told.reply;

@@ -1,8 +1,6 @@
 -- The station in the caller's memory: four lent arrays, with a row for each line. What they hold is the station's
 -- record, of which the definitions and the contracts speak.
 use Rattle.std.specs.Prelude.{◌≡◌, List, [], ◌∷◌, ℕ, length, get_or, replicate}
-use Rattle.std.specs.Borrow.{Bor}
-use denote.Triple.Both.{Both}
 use Rattle.station.specs.Records.{StationLine, Station}
 
 -- the four arrays, [[u8; 6]; 8], [[u16; 4]; 8], [[u8; 128]; 8] and [[u8; 256]; 8]
@@ -77,27 +75,9 @@ pub record Sized (m : Memory) : Type 0 where
 
 -- ---- What a contract names
 
--- the memory behind four references, and the line behind references to its rows
-abbrev pub behind : (marks places contents inboxes : Bor (List (List ℕ))) → Memory
-behind marks places contents inboxes = of_rows marks.now places.now contents.now inboxes.now
+-- the memory of four arrays that are lent, and the line of one row of each: as a call begins, and when it has returned
+abbrev pub behind : (marks places contents inboxes : List (List ℕ)) → Memory
+behind marks places contents inboxes = of_rows marks places contents inboxes
 
-abbrev pub rows_behind : (marks places content inbox : Bor (List ℕ)) → StationLine
-rows_behind marks places content inbox = line_from marks.now places.now content.now inbox.now
-
--- what is lent, at entry and at exit; of `&` it is the same at both
-abbrev Lent : Type 0 → Type 0
-Lent A = Both (Bor A) (Bor A)
-
--- the memory when a call begins, and when it has returned
-abbrev pub before : (marks places contents inboxes : Lent (List (List ℕ))) → Memory
-before marks places contents inboxes = behind marks.entry places.entry contents.entry inboxes.entry
-
-abbrev pub after : (marks places contents inboxes : Lent (List (List ℕ))) → Memory
-after marks places contents inboxes = behind marks.exit places.exit contents.exit inboxes.exit
-
--- the line, at the same two moments
-abbrev pub rows_before : (marks places content inbox : Lent (List ℕ)) → StationLine
-rows_before marks places content inbox = rows_behind marks.entry places.entry content.entry inbox.entry
-
-abbrev pub rows_after : (marks places content inbox : Lent (List ℕ)) → StationLine
-rows_after marks places content inbox = rows_behind marks.exit places.exit content.exit inbox.exit
+abbrev pub rows_behind : (marks places content inbox : List ℕ) → StationLine
+rows_behind marks places content inbox = line_from marks places content inbox

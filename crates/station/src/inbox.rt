@@ -1,7 +1,7 @@
 // A line's inbox: deliveries.
 ghost use Rattle.std.specs.Prelude.{◌≡◌, ◌++◌, ◌+◌, ◌-◌, ◌≤◌, length, take, drop};
 ghost use Rattle.station.specs.Lines.{over};
-ghost use Rattle.station.specs.Memory.{rows_before, rows_after};
+ghost use Rattle.station.specs.Memory.{rows_behind};
 ghost use Rattle.station.specs.Parts.{WaitsBy, OpensRows, Fills};
 
 use crate::{Refusal, Reply, copy, known};
@@ -73,7 +73,8 @@ pub(crate) fn fill(
     inbox: &mut [u8; 256],
     bytes: &[u8],
 ) -> Reply
-    ensures { Fills (rows_before marks places content inbox) bytes.now result (rows_after marks places content inbox) }
+    ensures { Fills (rows_behind marks.now places.old content.now inbox.old) bytes.now result
+        (rows_behind marks.now places.new content.now inbox.new) }
 {
     if marks[0] == 0 {
         return stop(Refusal::LineClosed, places, inbox);

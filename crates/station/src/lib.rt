@@ -20,7 +20,7 @@ mod turn;
 
 ghost use Rattle.std.specs.Prelude.{◌≡◌};
 ghost use Rattle.station.specs.Numbers.{number_of, number_of_refusal};
-ghost use Rattle.station.specs.Memory.{before, after};
+ghost use Rattle.station.specs.Memory.{behind};
 ghost use Rattle.station.specs.CallContracts.{Opens, Delivers, Serves};
 
 use line::Opening;
@@ -69,7 +69,8 @@ pub fn open(
     line: u8,
     mode: u8,
 ) -> Reply
-    ensures { Opens (before marks places contents inboxes) line mode result (after marks places contents inboxes) }
+    ensures { Opens (behind marks.old places.old contents.now inboxes.now) line mode result
+        (behind marks.new places.new contents.now inboxes.now) }
 {
     known::sized(*marks, *places, *contents, *inboxes);
     if line < 8 {
@@ -96,8 +97,8 @@ pub fn deliver(
     line: u8,
     bytes: &[u8],
 ) -> Reply
-    ensures { Delivers (before marks places contents inboxes) line bytes.now result
-        (after marks places contents inboxes) }
+    ensures { Delivers (behind marks.now places.old contents.now inboxes.old) line bytes.now result
+        (behind marks.now places.new contents.now inboxes.new) }
 {
     known::sized(*marks, *places, *contents, *inboxes);
     if line < 8 {
@@ -121,8 +122,8 @@ pub fn round(
     inboxes: &Inboxes,
     sheet: &mut [u8],
 ) -> RoundTold
-    ensures { Serves (before marks places contents inboxes) sheet.old result
-        (after marks places contents inboxes) sheet.new }
+    ensures { Serves (behind marks.old places.old contents.old inboxes.now) sheet.old result
+        (behind marks.new places.new contents.new inboxes.now) sheet.new }
 {
     if sheet.len() < SMALLEST_SHEET {
         return RoundTold {

@@ -1,6 +1,6 @@
 // The turns of a round, and their entries.
 ghost use Rattle.std.specs.Prelude.{◌≤◌, length};
-ghost use Rattle.station.specs.Memory.{before, after, station_in};
+ghost use Rattle.station.specs.Memory.{behind, station_in};
 ghost use Rattle.station.specs.Parts.{ServesLines};
 
 use crate::{Contents, Inboxes, Marks, Places, known, sheet, turn};
@@ -22,8 +22,8 @@ pub(crate) fn serve(
     sheet: &mut [u8],
 ) -> Served
     requires { 1096 ≤ length sheet.old }
-    ensures { ServesLines (station_in (before marks places contents inboxes)).lines sheet.old
-        (station_in (after marks places contents inboxes)).lines result.counts result.offsets sheet.new }
+    ensures { ServesLines (station_in (behind marks.old places.old contents.old inboxes.now)).lines sheet.old
+        (station_in (behind marks.new places.new contents.new inboxes.now)).lines result.counts result.offsets sheet.new }
 {
     known::sized(*marks, *places, *contents, *inboxes);
     let mut counts = [0u8; 8];

@@ -1,6 +1,6 @@
 // One line's turn in a round.
 ghost use Rattle.std.specs.Prelude.{◌≡◌, ◌≤◌};
-ghost use Rattle.station.specs.Memory.{rows_before, rows_after};
+ghost use Rattle.station.specs.Memory.{rows_behind};
 ghost use Rattle.station.specs.Parts.{end_of, Turns};
 
 use crate::{inbox, known};
@@ -32,7 +32,8 @@ pub(crate) fn turn(
     content: &mut [u8; 128],
     inbox: &[u8; 256],
 ) -> Took
-    ensures { Turns (rows_before marks places content inbox) (rows_after marks places content inbox) result.count result.heard result.frame }
+    ensures { Turns (rows_behind marks.old places.old content.old inbox.now)
+        (rows_behind marks.new places.new content.new inbox.now) result.count result.heard result.frame }
 {
     let opened = marks[0];
     if opened == 0 {

@@ -116,4 +116,4 @@ frames_read i cs sheet e h t q =
     let told = read_turn (gets (run all_closed cs) (serves sheet)).lent i in
     let after : account_of i (cs ++ serves sheet ∷ []) ≡ entered (account_of i cs) (took told) =
     account_more i cs (serves sheet) ∙ rw (round_number (run all_closed cs) sheet t) in
-    turn_number _ (account_of i cs) told e same q ∙ number_is _ ∙ rw after
+    turn_number 64 (account_of i cs) told e same q ∙ number_is _ ∙ rw after

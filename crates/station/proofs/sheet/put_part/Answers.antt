@@ -1,0 +1,8 @@
+-- A part of the content on the sheet.
+use Rattle.station.proofs.Entries.{part_put}
+use borrow.Author.Rules.{rules}
+use mathlib.Core.Path.{refl}
+use Rattle.station.proofs.sheet.put_part.Goals as goal
+
+pub returns : goal.returns
+returns c = (refl, part_put c.args.sheet.now _ c.args.content c.args.at c.args.part c.copy_in.ensures)
