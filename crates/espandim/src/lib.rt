@@ -6,6 +6,7 @@
 //
 // The station lies in four arrays of the caller's; `include/espandim.h` has them in one struct, and hands each of them in.
 #![tactic(auto)]
+
 ghost use Rattle.std.specs.Prelude.{◌≡◌, length};
 ghost use Rattle.groups.specs.Groups.{group_of};
 ghost use Rattle.groups.specs.Place.{judgement};

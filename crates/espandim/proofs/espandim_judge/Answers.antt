@@ -1,0 +1,7 @@
+-- The number of the verdict, and the stretches in the lent numbers.
+use Rattle.espandim.proofs.Telling.{judges}
+use borrow.Author.Rules.{rules}
+use Rattle.espandim.proofs.espandim_judge.Goals as goal
+
+pub returns : goal.returns
+returns c = judges c.judged-judgement.result _ _ c.judged-judgement.ensures c.number_of.ensures

@@ -1,0 +1,8 @@
+-- A round, and the number of its reply.
+use Rattle.espandim.proofs.Telling.{round_told}
+use Rattle.station.specs.Memory.{Memory, behind}
+use borrow.Author.Rules.{rules}
+use Rattle.espandim.proofs.espandim_rows_round.Goals as goal
+
+pub returns : goal.returns
+returns c = round_told (behind c.args.marks.now c.args.places.now c.args.contents.now c.args.inboxes.now) _ c.args.sheet.now _ _ _ c.round-told.ensures c.number_of.ensures
