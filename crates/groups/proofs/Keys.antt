@@ -6,7 +6,6 @@ use native.Mathlib.Nat.{not-suc-le-zero, le_of_suc-le-suc, mul-le-mul_right, mul
 use native.Mathlib.Omega.{arith}
 use lib.ListN.{length, get_or, take, drop, length-take, drop_of_length-le}
 use lib.Seq.{drop-cons, get_or-take}
-use Rattle.groups.specs.Order.{before}
 use Rattle.groups.specs.Packed.{packed, tail_of}
 use Rattle.groups.proofs.Laws.Tests.{split}
 use Rattle.groups.proofs.Laws.Packed.{Bytes, below}

@@ -1,25 +1,25 @@
 -- Laying bytes into a buffer, piece by piece, and the tests of the writer.
 use mathlib.Core.Path.{◌≡◌, refl, sym, ap, ◌∙◌, subst}
 use mathlib.Core.Bool.{Bool, true, false}
-use mathlib.Core.Option.{Option, none, some}
+use mathlib.Core.Option.{none, some}
 use mathlib.Core.List.{List, [], ◌∷◌, ◌++◌, append_assoc, map}
-use Prim.Native.Nat.{ℕ, zero, suc, ◌+◌, ◌-◌, ◌%◌, ◌<◌, ◌≤◌}
+use Prim.Native.Nat.{ℕ, suc, ◌+◌, ◌<◌, ◌≤◌}
 use native.Mathlib.Numerals.{add-one}
 use native.Mathlib.Omega.{arith}
-use lib.Dec.{T, eqb, leb}
-use lib.ListN.{length, take, drop, get_or, set, length-append, length-map, drop_of_length-le}
+use lib.Dec.{T}
+use lib.ListN.{length, drop, get_or, set, length-append, length-map, drop_of_length-le}
 use lib.Seq.{sets, sets-eq, length-sets, drop-cons}
-use borrow.Author.Tests.{eq-eqb, le-leb, lt-leb}
+use borrow.Author.Tests.{le-leb, lt-leb}
 use Rattle.characters.specs.Answers.{Answer, refused, given, need, found, pick}
 use Rattle.characters.specs.Wire.{wire_byte_of, LF, CR}
 use Rattle.groups.specs.Modes.{mode_of, separator}
 use Rattle.groups.specs.Formats.{Rule}
 use Rattle.groups.specs.Table.{rows, lookup}
 use Rattle.groups.specs.Stamps.{is_stamped, stamp_as}
-use Rattle.groups.specs.Fields.{checked, longest}
-use Rattle.groups.specs.Groups.{Group, group_of, compose, content, check, body, total}
+use Rattle.groups.specs.Fields.{checked}
+use Rattle.groups.specs.Groups.{Group, compose, content, check, body, total}
 use Rattle.groups.specs.Judging.{stamp_span}
-use Rattle.groups.specs.Writing.{on_the_wire, into, writing, told, left, Wrote}
+use Rattle.groups.specs.Writing.{on_the_wire, into, writing, Wrote}
 use Rattle.groups.specs.Inside.{Laid, ShortRow, RightFields, stamp_room, write_by}
 use Rattle.groups.proofs.Laws.Groups.{stamp_length, body_length, width_most, content_length, checked_right}
 use Rattle.groups.proofs.Laws.Table.{listed_right}

@@ -15,11 +15,10 @@ use Rattle.groups.specs.Judging.{judging}
 use Rattle.groups.specs.Stored.{rule_of, rule_found}
 use Rattle.groups.specs.Inside.{chosen_of, verdict_of, RightFields}
 use Rattle.groups.proofs.Laws.Tests.{zero_is_not_one}
-use Rattle.groups.proofs.Laws.Groups.{checked_given, checked_right}
+use Rattle.groups.proofs.Laws.Groups.{checked_given}
 use Rattle.groups.specs.declared.Mode.{Mode}
 use Rattle.groups.specs.declared.Refusal.{Refusal}
 use Rattle.groups.specs.declared.Refusal.TheVariants.{StampWrong, WidthWrong, KindWrong, ModeUnknown}
-use Rattle.groups.specs.declared.Verdict.{Verdict}
 use Rattle.groups.specs.declared.Verdict.TheVariants.{Accepted, Refused}
 use Rattle.groups.specs.declared.modes.Chosen.TheVariants.{Known, Unknown}
 use Rattle.groups.specs.declared.find.Found.{Found}

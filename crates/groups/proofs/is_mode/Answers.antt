@@ -1,7 +1,6 @@
 -- A number is that of a mode where one is chosen.
 use Rattle.groups.proofs.Views.{known_none, known_some}
 use Rattle.groups.specs.Modes.{mode_of}
-use borrow.Author.Rules.{rules}
 use mathlib.Core.Path.{◌∙◌, sym}
 use Rattle.groups.proofs.is_mode.Goals as goal
 

@@ -1,7 +1,6 @@
 -- A known mode is read, an unknown one is 19.
 use Rattle.groups.proofs.Telling.{told_in, told_no_mode}
 use Rattle.groups.proofs.Views.{chosen_none, chosen_some}
-use borrow.Author.Rules.{rules}
 use mathlib.Core.Path.{◌∙◌, sym}
 use Rattle.groups.proofs.judge.Goals as goal
 

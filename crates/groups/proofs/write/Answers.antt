@@ -2,7 +2,6 @@
 use Rattle.groups.proofs.Laying.{write_mode, write_nowhere, wrote_as}
 use Rattle.groups.proofs.Views.{chosen_none, chosen_some}
 use Rattle.groups.specs.Groups.{group_of}
-use borrow.Author.Rules.{rules}
 use lib.ListN.{length}
 use mathlib.Core.Path.{◌∙◌, sym}
 use Rattle.groups.proofs.write.Goals as goal

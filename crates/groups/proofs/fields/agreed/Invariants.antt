@@ -1,11 +1,8 @@
 -- What is left decides: the place is that in what is left, and the characters gone over.
 use Prim.Native.Nat.{◌+◌, ◌-◌, ◌≤◌}
-use Rattle.groups.proofs.Pictures.{agreed_here, agreed_on, agreed_over}
 use Rattle.groups.specs.Place.{agreed}
-use borrow.Author.Rules.{rules}
 use lib.ListN.{drop, length}
-use mathlib.Core.Path.{◌∙◌, ◌≡◌, sym}
-use native.Mathlib.Omega.{arith}
+use mathlib.Core.Path.{◌≡◌}
 use Rattle.groups.proofs.fields.agreed.Given as goal
 
 abbrev pub invariant-loop-i : goal.invariant-loop-i

@@ -1,10 +1,7 @@
 -- The answer so far is right only where all so far are of the kind.
-use Prim.Native.Nat.{◌-◌, ◌≤◌}
-use Rattle.characters.specs.Passing.{Pass, pass_none, pass_on}
+use Rattle.characters.specs.Passing.{pass_none, pass_on}
 use Rattle.groups.specs.Kinds.{of_kind}
 use borrow.Author.Rules.{rules}
-use mathlib.Core.Bool.{true}
-use mathlib.Core.Path.{◌≡◌}
 use native.Mathlib.Omega.{arith}
 use Rattle.groups.proofs.fields.eight_of_kind.Goals as goal
 

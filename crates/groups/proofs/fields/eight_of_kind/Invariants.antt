@@ -1,11 +1,9 @@
 -- The answer so far is right only where all so far are of the kind.
 use Prim.Native.Nat.{◌-◌, ◌≤◌}
-use Rattle.characters.specs.Passing.{Pass, pass_none, pass_on}
+use Rattle.characters.specs.Passing.{Pass}
 use Rattle.groups.specs.Kinds.{of_kind}
-use borrow.Author.Rules.{rules}
 use mathlib.Core.Bool.{true}
 use mathlib.Core.Path.{◌≡◌}
-use native.Mathlib.Omega.{arith}
 use Rattle.groups.proofs.fields.eight_of_kind.Given as goal
 
 abbrev pub invariant-loop-i : goal.invariant-loop-i

@@ -1,10 +1,6 @@
 -- Eight that are of the kind are eight more.
-use Prim.Native.Nat.{◌-◌}
 use Rattle.groups.proofs.Walks.{right_further}
-use Rattle.groups.specs.Inside.{RightUpTo}
 use Rattle.groups.specs.Kinds.{of_kind}
-use borrow.Author.Rules.{rules}
-use lib.ListN.{length}
 use native.Mathlib.Omega.{arith}
 use Rattle.groups.proofs.fields.eights_of_kind.Goals as goal
 

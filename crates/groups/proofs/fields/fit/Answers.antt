@@ -1,5 +1,4 @@
 -- The rule is one or the other.
-use borrow.Author.Rules.{rules}
 use mathlib.Core.Path.{◌∙◌}
 use Rattle.groups.proofs.fields.fit.Goals as goal
 

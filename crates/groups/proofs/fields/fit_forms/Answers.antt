@@ -6,7 +6,6 @@ use Rattle.groups.specs.Formats.{forms}
 use Rattle.groups.specs.Forms.{some_fits}
 use Rattle.groups.specs.Stamps.{stamp_as}
 use Rattle.groups.specs.Stored.{formats_from}
-use borrow.Author.Rules.{rules}
 use borrow.Author.Tests.{eq-eqb, le-leb, lt-leb, ne_eqb}
 use mathlib.Core.Bool.{true}
 use mathlib.Core.Path.{◌∙◌, ◌≡◌, sym}

@@ -4,7 +4,6 @@ use Rattle.groups.proofs.Pictures.{plain_kind, plain_width}
 use Rattle.groups.proofs.Walks.{all_right, some_wrong}
 use Rattle.groups.specs.Fields.{checked}
 use Rattle.groups.specs.Kinds.{of_kind}
-use borrow.Author.Rules.{rules}
 use borrow.Author.Tests.{eq-eqb, ne_eqb}
 use mathlib.Core.Path.{◌∙◌, sym}
 use Rattle.groups.proofs.fields.fit_plain.Goals as goal

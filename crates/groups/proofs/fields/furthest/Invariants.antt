@@ -1,12 +1,9 @@
 -- What is left of the forms decides, and what was reached in those gone over.
 use Prim.Native.Nat.{◌+◌, ◌-◌, ◌≤◌, max}
-use Rattle.groups.proofs.Pictures.{furthest_on, furthest_over}
 use Rattle.groups.specs.Formats.{forms}
-use Rattle.groups.specs.Place.{furthest, reach}
+use Rattle.groups.specs.Place.{furthest}
 use Rattle.groups.specs.Stored.{formats_from}
-use borrow.Author.Rules.{rules}
-use mathlib.Core.Path.{◌∙◌, ◌≡◌, sym}
-use native.Mathlib.Omega.{arith}
+use mathlib.Core.Path.{◌≡◌}
 use Rattle.groups.proofs.fields.furthest.Given as goal
 
 abbrev pub invariant-loop-i : goal.invariant-loop-i

@@ -1,5 +1,4 @@
 -- Each kind is its own test.
-use borrow.Author.Rules.{rules}
 use Rattle.groups.proofs.fields.of_kind.Goals as goal
 
 pub returns-in-Digits : goal.returns-in-Digits

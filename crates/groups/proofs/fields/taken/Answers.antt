@@ -1,7 +1,6 @@
 -- Each answer by the tests that led to it.
 use Rattle.characters.specs.Answers.{pick}
 use Rattle.groups.specs.Forms.{takes}
-use borrow.Author.Rules.{rules}
 use borrow.Author.Tests.{eq-eqb, ne_eqb}
 use mathlib.Core.Path.{◌∙◌}
 use Rattle.groups.proofs.fields.taken.Goals as goal

@@ -1,10 +1,6 @@
 -- What is left decides: the place is that in what is left, and the characters gone over.
-use Prim.Native.Nat.{◌-◌}
 use Rattle.groups.proofs.Walks.{wrong_here, wrong_on, wrong_over}
-use Rattle.groups.specs.Inside.{RightUpTo}
 use Rattle.groups.specs.Kinds.{of_kind}
-use borrow.Author.Rules.{rules}
-use lib.ListN.{length}
 use mathlib.Core.Path.{◌∙◌, sym}
 use native.Mathlib.Omega.{arith}
 use Rattle.groups.proofs.fields.wrong_at.Goals as goal

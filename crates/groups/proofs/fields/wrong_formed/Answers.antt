@@ -1,6 +1,5 @@
 -- How far data get counts from 1, and 0 is a length that no form has.
 use Rattle.groups.proofs.Pictures.{formed_wrong, wrong_most}
-use borrow.Author.Rules.{rules}
 use native.Mathlib.Omega.{arith}
 use Rattle.groups.proofs.fields.wrong_formed.Goals as goal
 

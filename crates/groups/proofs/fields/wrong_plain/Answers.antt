@@ -2,7 +2,6 @@
 use Rattle.groups.proofs.Pictures.{plain_unfit, plain_wrong}
 use Rattle.groups.proofs.Walks.{wrong_within}
 use Rattle.groups.specs.Kinds.{of_kind}
-use borrow.Author.Rules.{rules}
 use mathlib.Core.Path.{◌∙◌, sym}
 use native.Mathlib.Omega.{arith}
 use Rattle.groups.proofs.fields.wrong_plain.Goals as goal

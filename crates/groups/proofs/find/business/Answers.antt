@@ -6,7 +6,6 @@ use Rattle.groups.specs.Packed.{packed, unpacked}
 use Rattle.groups.specs.Stored.{formats_from, numbered, under}
 use Rattle.groups.specs.Table.{business_rows}
 use Rattle.groups.specs.declared.Mode.TheVariants.{Business}
-use borrow.Author.Rules.{rules}
 use lib.Dec.{lit<, lit≤}
 use mathlib.Core.Path.{refl}
 use native.Mathlib.Nat.{not-suc-le-zero}

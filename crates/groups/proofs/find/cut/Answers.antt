@@ -1,7 +1,5 @@
 -- What is divided away is made 0.
 use Prim.Native.Nat.{◌-◌, ◌≤◌}
-use Rattle.groups.proofs.Keys.{past}
-use borrow.Author.Rules.{rules}
 use mathlib.Core.Path.{◌≡◌}
 use native.Mathlib.Omega.{arith}
 use Rattle.groups.proofs.find.cut.Goals as goal

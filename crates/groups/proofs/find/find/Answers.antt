@@ -1,7 +1,6 @@
 -- The row that decides of the label's key is asked for its numbers.
 use Rattle.groups.proofs.Search.{found_by, no_bytes, too_many}
 use Rattle.groups.specs.declared.Mode.TheVariants.{Historic, Standard, Business}
-use borrow.Author.Rules.{rules}
 use mathlib.Core.Path.{◌∙◌}
 use native.Mathlib.Omega.{arith}
 use Rattle.groups.proofs.find.find.Goals as goal

@@ -1,6 +1,5 @@
 -- Two halves of four bytes are eight.
 use Rattle.groups.proofs.Keys.{eight_halves}
-use borrow.Author.Rules.{rules}
 use Rattle.groups.proofs.find.first_eight.Goals as goal
 
 pub returns : goal.returns

@@ -1,6 +1,5 @@
 -- The row is asked for the label's numbers.
 use Rattle.characters.specs.Answers.{pick}
-use borrow.Author.Rules.{rules}
 use mathlib.Core.Path.{◌∙◌, sym}
 use Rattle.groups.proofs.find.formed_rule.Goals as goal
 

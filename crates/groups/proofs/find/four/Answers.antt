@@ -1,6 +1,5 @@
 -- The sum is that of the definition.
 use Rattle.groups.specs.Packed.{packed}
-use borrow.Author.Rules.{rules}
 use native.Mathlib.Omega.{arith}
 use Rattle.groups.proofs.find.four.Goals as goal
 

@@ -5,7 +5,6 @@ use Rattle.groups.specs.Formats.{form_of}
 use Rattle.groups.specs.Packed.{packed, unpacked}
 use Rattle.groups.specs.Table.{historic_rows}
 use Rattle.groups.specs.declared.Mode.TheVariants.{Historic}
-use borrow.Author.Rules.{rules}
 use lib.Dec.{lit<, lit≤}
 use mathlib.Core.Path.{refl}
 use native.Mathlib.Nat.{not-suc-le-zero}

@@ -1,5 +1,5 @@
 -- Each byte goes on top of those behind it.
-use Prim.Native.Nat.{ℕ, ◌-◌, ◌≤◌}
+use Prim.Native.Nat.{ℕ, ◌-◌}
 use Rattle.groups.proofs.Keys.{byte_on_top, bytes_drop, bytes_take, key_small, none_behind_all}
 use Rattle.groups.proofs.Laws.Packed.{Bytes}
 use Rattle.groups.specs.Packed.{packed}

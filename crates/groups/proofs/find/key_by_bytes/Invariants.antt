@@ -1,11 +1,8 @@
 -- Each byte goes on top of those behind it.
-use Prim.Native.Nat.{ℕ, ◌-◌, ◌≤◌}
-use Rattle.groups.proofs.Keys.{byte_on_top, bytes_drop, bytes_take, key_small, none_behind_all}
-use Rattle.groups.proofs.Laws.Packed.{Bytes}
+use Prim.Native.Nat.{◌≤◌}
 use Rattle.groups.specs.Packed.{packed}
 use lib.ListN.{drop, take}
-use mathlib.Core.Path.{◌≡◌, ◌∙◌, ap, sym}
-use native.Mathlib.Omega.{arith}
+use mathlib.Core.Path.{◌≡◌}
 use Rattle.groups.proofs.find.key_by_bytes.Given as goal
 
 abbrev pub invariant-loop-i : goal.invariant-loop-i

@@ -1,6 +1,5 @@
 -- The first eight bytes of the text, cut to the label; byte by byte where there are not so many.
 use Rattle.groups.proofs.Keys.{key_cut}
-use borrow.Author.Rules.{rules}
 use mathlib.Core.Path.{◌∙◌}
 use native.Mathlib.Omega.{arith}
 use Rattle.groups.proofs.find.key_of.Goals as goal

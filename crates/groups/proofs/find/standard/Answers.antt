@@ -5,7 +5,6 @@ use Rattle.groups.specs.Formats.{form_of}
 use Rattle.groups.specs.Packed.{packed, unpacked}
 use Rattle.groups.specs.Table.{standard_rows}
 use Rattle.groups.specs.declared.Mode.TheVariants.{Standard}
-use borrow.Author.Rules.{rules}
 use lib.Dec.{lit<, lit≤}
 use mathlib.Core.Path.{refl}
 use native.Mathlib.Nat.{not-suc-le-zero}

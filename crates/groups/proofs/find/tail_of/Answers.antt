@@ -1,6 +1,5 @@
 -- Only a label of nine bytes has a ninth.
 use Rattle.groups.proofs.Keys.{tail_of_few, tail_of_nine}
-use borrow.Author.Rules.{rules}
 use native.Mathlib.Omega.{arith}
 use Rattle.groups.proofs.find.tail_of.Goals as goal
 

@@ -2,7 +2,6 @@
 use Prim.Native.Nat.{◌+◌, ◌-◌}
 use Rattle.characters.specs.Answers.{from_true, is_true}
 use Rattle.groups.proofs.Between.{between_joined}
-use borrow.Author.Rules.{rules}
 use lib.ListN.{length}
 use mir.Facts.{and_yes}
 use native.Mathlib.Omega.{arith}

@@ -1,10 +1,6 @@
 -- Eight that lie between the texts are eight more.
-use Prim.Native.Nat.{◌+◌, ◌-◌, ◌≤◌}
-use Rattle.characters.specs.Answers.{from_true}
-use Rattle.groups.proofs.Between.{between_joined, between_none}
+use Prim.Native.Nat.{◌-◌, ◌≤◌}
 use Rattle.groups.specs.Stored.{Between}
-use borrow.Author.Rules.{rules}
-use native.Mathlib.Omega.{arith}
 use Rattle.groups.proofs.quick.eights_between.Given as goal
 
 abbrev pub invariant-loop-i : goal.invariant-loop-i

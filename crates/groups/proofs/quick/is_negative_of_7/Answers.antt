@@ -4,7 +4,6 @@ use Rattle.groups.proofs.Between.{bounded_fits}
 use Rattle.groups.specs.Formats.{form_of}
 use Rattle.groups.specs.Forms.{takes}
 use Rattle.groups.specs.Stored.{format_at, numbered, under}
-use borrow.Author.Rules.{rules}
 use Rattle.groups.proofs.quick.is_negative_of_7.Goals as goal
 
 pub returns-then-lies_between : goal.returns-then-lies_between

@@ -1,7 +1,6 @@
 -- The ends of the texts are as long as the data.
 use Rattle.characters.specs.Answers.{from_true}
 use Rattle.groups.proofs.Between.{ends_bounded}
-use borrow.Author.Rules.{rules}
 use native.Mathlib.Omega.{arith}
 use Rattle.groups.proofs.quick.lies_between.Goals as goal
 

@@ -1,10 +1,6 @@
 -- The answer so far is right only where all so far lie between the texts.
-use Prim.Native.Nat.{◌-◌, ◌≤◌}
 use Rattle.groups.proofs.Between.{between_none, between_on}
-use Rattle.groups.specs.Stored.{Between}
 use borrow.Author.Rules.{rules}
-use mathlib.Core.Bool.{true}
-use mathlib.Core.Path.{◌≡◌}
 use native.Mathlib.Omega.{arith}
 use Rattle.groups.proofs.quick.part_between.Goals as goal
 

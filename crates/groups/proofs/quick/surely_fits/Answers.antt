@@ -1,8 +1,6 @@
 -- The form that took the data is one of the forms.
-use Prim.Native.Nat.{◌-◌, ◌≤◌}
 use Rattle.characters.specs.Answers.{from_true}
 use Rattle.groups.proofs.Between.{one_fits}
-use borrow.Author.Rules.{rules}
 use native.Mathlib.Omega.{arith}
 use Rattle.groups.proofs.quick.surely_fits.Goals as goal
 

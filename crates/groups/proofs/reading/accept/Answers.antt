@@ -1,5 +1,4 @@
 -- The stretches follow from the lengths.
-use borrow.Author.Rules.{rules}
 use Rattle.groups.proofs.reading.accept.Goals as goal
 
 pub returns : goal.returns

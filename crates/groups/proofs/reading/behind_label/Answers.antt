@@ -7,7 +7,6 @@ use Rattle.groups.specs.Table.{lookup, rows}
 use mathlib.Core.List.{List}
 use Rattle.groups.proofs.Laws.Places.{behind_checked, behind_listed, behind_open, behind_short, behind_unlisted}
 use Rattle.groups.specs.declared.Refusal.TheVariants.{CheckWrong, LabelUnknown, Misshapen}
-use borrow.Author.Rules.{rules}
 use lib.ListN.{length-take}
 use mathlib.Core.Path.{◌∙◌, ap, sym}
 use native.Mathlib.Omega.{arith}

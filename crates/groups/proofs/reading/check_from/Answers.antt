@@ -1,7 +1,6 @@
 -- The sums of the pieces are the sum of the whole.
 use Rattle.groups.proofs.Walks.{separator_small}
 use Rattle.groups.specs.Inside.{check_from}
-use borrow.Author.Rules.{rules}
 use mathlib.Core.Path.{◌∙◌}
 use native.Mathlib.Omega.{arith}
 use Rattle.groups.proofs.reading.check_from.Goals as goal

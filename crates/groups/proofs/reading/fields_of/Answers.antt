@@ -2,7 +2,6 @@
 use Rattle.groups.proofs.Walks.{split_at, to_end}
 use Rattle.groups.proofs.Telling.{told_fields, told_next}
 use Rattle.groups.specs.Stored.{rule_of}
-use borrow.Author.Rules.{rules}
 use lib.Seq.{length-take-le}
 use mathlib.Core.Path.{◌∙◌, sym}
 use native.Mathlib.Omega.{arith}

@@ -3,7 +3,6 @@ use Rattle.groups.proofs.Telling.{told_accepted, told_refused}
 use Rattle.groups.proofs.Views.{fit_right, fit_wrong}
 use Rattle.groups.proofs.Laws.Groups.{checked_right}
 use Rattle.groups.specs.Stored.{rule_of}
-use borrow.Author.Rules.{rules}
 use mathlib.Core.Path.{◌∙◌, sym}
 use Rattle.groups.proofs.reading.finish.Goals as goal
 

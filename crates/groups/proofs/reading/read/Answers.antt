@@ -6,7 +6,6 @@ use Rattle.groups.specs.Inside.{ContentWalk}
 use Rattle.groups.proofs.Telling.{told_cut, told_nowhere}
 use Rattle.groups.specs.declared.Refusal.TheVariants.{Misshapen, TooLong}
 use Rattle.groups.proofs.Laws.Places.{read_long, read_uncut, read_unlabelled}
-use borrow.Author.Rules.{rules}
 use lib.ListN.{length-take}
 use mathlib.Core.Path.{◌∙◌, ap, subst}
 use native.Mathlib.Omega.{arith}

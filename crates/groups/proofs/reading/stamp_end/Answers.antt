@@ -4,7 +4,6 @@ use Rattle.groups.specs.Judging.{stamp_span}
 use Rattle.groups.proofs.Laws.Places.{fields_plain, fields_short, fields_stamped, fields_unparted}
 use Rattle.groups.specs.Stamps.{is_stamped}
 use Rattle.groups.specs.Stored.{rule_of}
-use borrow.Author.Rules.{rules}
 use mathlib.Core.Bool.{Bool}
 use mathlib.Core.Path.{◌∙◌, ap, sym}
 use native.Mathlib.Omega.{arith}

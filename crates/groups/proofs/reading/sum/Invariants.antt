@@ -1,11 +1,8 @@
 -- The sum so far and the sum of what is left are the whole sum.
 use Prim.Native.Nat.{◌*◌, ◌+◌, ◌-◌, ◌≤◌}
-use Rattle.groups.proofs.Walks.{total_on, total_over}
 use Rattle.groups.specs.Groups.{total}
-use borrow.Author.Rules.{rules}
 use lib.ListN.{drop, length}
 use mathlib.Core.Path.{◌≡◌}
-use native.Mathlib.Omega.{arith}
 use Rattle.groups.proofs.reading.sum.Given as goal
 
 abbrev pub invariant-loop-i : goal.invariant-loop-i

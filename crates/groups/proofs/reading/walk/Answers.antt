@@ -2,7 +2,6 @@
 use Prim.Native.Nat.{◌+◌, ◌-◌}
 use Rattle.groups.proofs.Walks.{total_between, total_most}
 use Rattle.groups.specs.Groups.{total}
-use borrow.Author.Rules.{rules}
 use lib.ListN.{length, take}
 use mathlib.Core.Path.{◌≡◌}
 use native.Mathlib.Omega.{arith}

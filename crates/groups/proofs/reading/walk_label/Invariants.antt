@@ -1,12 +1,9 @@
 -- What is left decides the place; what was gone over is summed.
 use Prim.Native.Nat.{◌*◌, ◌+◌, ◌-◌, ◌≤◌}
-use Rattle.groups.proofs.Walks.{first_here, first_on, first_over, total_upto}
 use Rattle.groups.specs.Conditions.{first_at}
 use Rattle.groups.specs.Groups.{total}
-use borrow.Author.Rules.{rules}
 use lib.ListN.{drop, length, take}
 use mathlib.Core.Path.{◌≡◌}
-use native.Mathlib.Omega.{arith}
 use Rattle.groups.proofs.reading.walk_label.Given as goal
 
 abbrev pub invariant-loop-i : goal.invariant-loop-i

@@ -3,7 +3,6 @@ use Rattle.groups.specs.Inside.{wrong_behind}
 use Rattle.groups.proofs.Laws.Place.{no_place, place_fourteen, place_twelve}
 use Rattle.groups.specs.Numbers.{number_of_refusal}
 use Rattle.groups.specs.Stored.{rule_of}
-use borrow.Author.Rules.{rules}
 use borrow.Author.Tests.{ne_eqb}
 use mathlib.Core.Path.{◌∙◌, sym}
 use native.Mathlib.Omega.{arith}

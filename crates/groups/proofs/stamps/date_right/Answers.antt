@@ -6,7 +6,6 @@ use Rattle.groups.specs.Inside.{wrong_at}
 use Rattle.groups.specs.Kinds.{of_kind}
 use Rattle.groups.specs.Stamps.{date_right}
 use Rattle.groups.specs.declared.table.Kind.TheVariants.{Digits}
-use borrow.Author.Rules.{rules}
 use borrow.Author.Tests.{eq-eqb, ne_eqb}
 use lib.Dec.{eqb}
 use lib.ListN.{drop, length, length-drop, take}

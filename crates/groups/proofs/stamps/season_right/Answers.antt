@@ -1,5 +1,4 @@
 -- Each mark is its own test.
-use borrow.Author.Rules.{rules}
 use Rattle.groups.proofs.stamps.season_right.Goals as goal
 
 pub returns-in-Letter : goal.returns-in-Letter

@@ -1,6 +1,5 @@
 -- Each answer by the tests that led to it.
 use Rattle.groups.specs.Stamps.{stamp_as}
-use borrow.Author.Rules.{rules}
 use borrow.Author.Tests.{eq-eqb, ne_eqb}
 use mathlib.Core.Path.{◌∙◌, sym}
 use Rattle.groups.proofs.stamps.stamp_right.Goals as goal

@@ -1,12 +1,8 @@
 -- What is laid and what is still to be laid are the whole text.
-use Prim.Native.Nat.{◌+◌, ◌-◌, ◌≤◌}
-use Rattle.characters.specs.Wire.{wire_byte_of}
 use Rattle.groups.proofs.Laying.{sets_on, sets_over, sets_start}
 use borrow.Author.Rules.{rules}
-use lib.ListN.{drop, length, length-map, length-set}
-use lib.Seq.{sets}
-use mathlib.Core.List.{map}
-use mathlib.Core.Path.{◌∙◌, ◌≡◌, refl, sym}
+use lib.ListN.{length-map, length-set}
+use mathlib.Core.Path.{◌∙◌, refl, sym}
 use native.Mathlib.Omega.{arith}
 use Rattle.groups.proofs.writing.put_all.Goals as goal
 

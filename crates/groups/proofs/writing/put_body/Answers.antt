@@ -1,7 +1,6 @@
 -- The pieces of the body, one behind the other.
 use Rattle.characters.specs.Wire.{wire_byte_of}
 use Rattle.groups.proofs.Laying.{body_long, body_pieces, body_plain, laid_as, laid_length, laid_then}
-use borrow.Author.Rules.{rules}
 use lib.ListN.{length, length-map}
 use mathlib.Core.List.{map}
 use mathlib.Core.Path.{◌∙◌, ap, sym}

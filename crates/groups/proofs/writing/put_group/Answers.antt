@@ -6,7 +6,6 @@ use Rattle.groups.proofs.Walks.{check_from_lem}
 use Rattle.groups.specs.Groups.{body}
 use Rattle.groups.specs.Inside.{check_from}
 use Rattle.groups.specs.Stamps.{is_stamped}
-use borrow.Author.Rules.{rules}
 use lib.ListN.{length-map}
 use mathlib.Core.Path.{◌∙◌, ap}
 use native.Mathlib.Omega.{arith}

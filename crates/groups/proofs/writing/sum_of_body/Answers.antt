@@ -1,7 +1,6 @@
 -- The sums of the pieces are the sum of the body.
 use Rattle.groups.proofs.Laying.{body_plain, total_stamped}
 use Rattle.groups.proofs.Walks.{separator_small}
-use borrow.Author.Rules.{rules}
 use mathlib.Core.Path.{◌∙◌, sym}
 use native.Mathlib.Omega.{arith}
 use Rattle.groups.proofs.writing.sum_of_body.Goals as goal

@@ -3,7 +3,6 @@ use Rattle.groups.proofs.Laying.{write_wrong, wrote_as}
 use Rattle.groups.proofs.Views.{fit_right, fit_wrong}
 use Rattle.groups.specs.Groups.{group_of}
 use Rattle.groups.specs.Stored.{rule_of}
-use borrow.Author.Rules.{rules}
 use lib.ListN.{length}
 use mathlib.Core.Path.{◌∙◌, sym}
 use Rattle.groups.proofs.writing.write_by.Goals as goal

@@ -2,7 +2,6 @@
 use Rattle.groups.proofs.Laying.{listed_short, write_listed, write_unlisted, wrote_as}
 use Rattle.groups.proofs.Views.{found_none, found_some}
 use Rattle.groups.specs.Groups.{group_of}
-use borrow.Author.Rules.{rules}
 use lib.ListN.{length}
 use lib.Seq.{take_all}
 use mathlib.Core.List.{List}

@@ -2,7 +2,6 @@
 use Rattle.groups.proofs.Laying.{all_short, body_size, laid_marked, wire_size, write_done, write_tight, wrote_as, wrote_laid}
 use Rattle.groups.specs.Groups.{group_of}
 use Rattle.groups.specs.Stored.{rule_of}
-use borrow.Author.Rules.{rules}
 use lib.ListN.{length}
 use native.Mathlib.Omega.{arith}
 use Rattle.groups.proofs.writing.write_right.Goals as goal
