@@ -9,7 +9,6 @@ use Rattle.groups.specs.Judging.{judging, shown, part_of, Shows, Inside}
 use Rattle.groups.specs.Place.{place_of, judgement}
 use Rattle.groups.proofs.Laws.Shown.{shows, shown_inside, part_of_more}
 use Rattle.groups.specs.declared.Refusal.{Refusal}
-use Rattle.groups.specs.declared.Verdict.TheVariants as verdicts
 use Rattle.line.specs.Symbols.{symbol_of}
 use Rattle.line.specs.Rules.{move}
 use Rattle.line.specs.Lines.{

@@ -1,7 +1,7 @@
 -- The numbers that a line keeps, and the line that they stand for. Every value stands for one: a phase that is neither
 -- 1 nor 2 is outside, a mark is set when it is not 0, a length above 128 is 128, and of a frame number counts the remainder
 -- of 65,536, which is all that 16 bits hold.
-use Rattle.std.specs.Prelude.{Bool, true, false, not, List, ℕ, ◌%◌, eqb, ltb, take}
+use Rattle.std.specs.Prelude.{Bool, not, List, ℕ, ◌%◌, eqb, ltb, take}
 use mir.Val.{bool_byte}
 use Rattle.characters.specs.Answers.{pick}
 use Rattle.groups.specs.Modes.{is_mode}

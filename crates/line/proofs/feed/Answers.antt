@@ -1,11 +1,10 @@
 -- What is left of the bytes decides.
 use borrow.Author.Rules.{rules}
-use Prim.Native.Nat.{◌+◌, ◌-◌, ◌≤◌}
+use Prim.Native.Nat.{◌+◌, ◌≤◌}
 use Rattle.line.proofs.Feeding.{as_fed, feed_accepted, feed_on, feed_over, feed_told}
 use Rattle.line.proofs.InRows.{run_most, run_on, stepped_as}
-use Rattle.line.specs.Steps.{fed}
-use lib.ListN.{drop, length}
-use mathlib.Core.Path.{◌∙◌, ◌≡◌, refl}
+use lib.ListN.{length}
+use mathlib.Core.Path.{◌∙◌, refl}
 use native.Mathlib.Omega.{arith}
 use Rattle.line.proofs.feed.Goals as goal
 

@@ -1,12 +1,8 @@
 -- What is left of the bytes decides.
-use borrow.Author.Rules.{rules}
-use Prim.Native.Nat.{◌+◌, ◌-◌, ◌≤◌}
-use Rattle.line.proofs.Feeding.{as_fed, feed_accepted, feed_on, feed_over, feed_told}
-use Rattle.line.proofs.InRows.{run_most, run_on, stepped_as}
+use Prim.Native.Nat.{◌-◌, ◌≤◌}
 use Rattle.line.specs.Steps.{fed}
 use lib.ListN.{drop, length}
-use mathlib.Core.Path.{◌∙◌, ◌≡◌, refl}
-use native.Mathlib.Omega.{arith}
+use mathlib.Core.Path.{◌≡◌}
 use Rattle.line.proofs.feed.Given as goal
 
 abbrev pub invariant-loop-i : goal.invariant-loop-i

@@ -1,7 +1,6 @@
 -- A known mode is opened, an unknown one is not.
 use Rattle.characters.specs.Answers.{pick}
 use Rattle.line.specs.State.{opening_of}
-use borrow.Author.Rules.{rules}
 use mathlib.Core.Path.{◌∙◌, sym}
 use Rattle.line.proofs.open.Goals as goal
 

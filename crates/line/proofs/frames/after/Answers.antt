@@ -1,5 +1,4 @@
 -- One more at an STX, and at no other byte.
-use borrow.Author.Rules.{rules}
 use mathlib.Core.Path.{ap}
 use native.Mathlib.Omega.{arith}
 use Rattle.line.specs.FrameNumbers.{frame_at}

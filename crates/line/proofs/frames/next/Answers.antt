@@ -1,5 +1,4 @@
 -- The last number is followed by the first, and every other by the next.
-use borrow.Author.Rules.{rules}
 use native.Mathlib.Omega.{arith}
 use Rattle.line.proofs.Laws.FrameNumbers.{next_last, next_other}
 use Rattle.line.proofs.frames.next.Goals as goal

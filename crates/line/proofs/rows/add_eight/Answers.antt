@@ -1,5 +1,4 @@
 -- Each of the eight joins the content, as it would by itself.
-use borrow.Author.Rules.{rules}
 use Rattle.line.proofs.InRows.{adds_eight}
 use Rattle.line.proofs.rows.add_eight.Goals as goal
 

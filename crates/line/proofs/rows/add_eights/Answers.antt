@@ -1,6 +1,4 @@
 -- Eight by eight.
-use Prim.Native.Nat.{◌-◌, ◌≤◌}
-use Rattle.line.specs.Runs.{AddsOn}
 use borrow.Author.Rules.{rules}
 use native.Mathlib.Omega.{arith}
 use Rattle.line.proofs.rows.add_eights.Goals as goal

@@ -1,8 +1,6 @@
 -- Eight by eight.
 use Prim.Native.Nat.{◌-◌, ◌≤◌}
 use Rattle.line.specs.Runs.{AddsOn}
-use borrow.Author.Rules.{rules}
-use native.Mathlib.Omega.{arith}
 use Rattle.line.proofs.rows.add_eights.Given as goal
 
 abbrev pub invariant-loop-i : goal.invariant-loop-i

@@ -1,6 +1,5 @@
 -- Eight by eight first, and then one by one.
 use Rattle.line.proofs.InRows.{adds_none}
-use borrow.Author.Rules.{rules}
 use Rattle.line.proofs.rows.add_text.Goals as goal
 
 pub returns : goal.returns

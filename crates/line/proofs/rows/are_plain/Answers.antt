@@ -1,10 +1,7 @@
 -- All that were gone over are plain, where no test failed.
-use Prim.Native.Nat.{◌-◌, ◌≤◌}
-use Rattle.characters.specs.Passing.{Pass, pass_none, pass_on}
+use Rattle.characters.specs.Passing.{pass_none, pass_on}
 use Rattle.line.specs.Runs.{is_plain_byte}
 use borrow.Author.Rules.{rules}
-use mathlib.Core.Bool.{true}
-use mathlib.Core.Path.{◌≡◌}
 use native.Mathlib.Omega.{arith}
 use Rattle.line.proofs.rows.are_plain.Goals as goal
 

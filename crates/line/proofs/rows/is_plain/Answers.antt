@@ -1,6 +1,5 @@
 -- The two tests are those of the definition.
 use Rattle.line.specs.Runs.{is_plain_byte}
-use borrow.Author.Rules.{rules}
 use Rattle.line.proofs.rows.is_plain.Goals as goal
 
 pub returns : goal.returns

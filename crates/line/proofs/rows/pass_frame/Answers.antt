@@ -1,5 +1,4 @@
 -- An LF, or what comes.
-use borrow.Author.Rules.{rules}
 use Rattle.line.proofs.InRows.{passes_lf}
 use Rattle.line.proofs.rows.pass_frame.Goals as goal
 

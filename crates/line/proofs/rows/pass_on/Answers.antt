@@ -1,11 +1,8 @@
 -- Each byte flaws the frame, up to an LF or a byte that gives an answer.
-use borrow.Author.Rules.{rules}
-use Prim.Native.Nat.{◌-◌}
-use lib.ListN.{get_or, length}
+use lib.ListN.{get_or}
 use mathlib.Core.Path.{◌∙◌, ap, sym}
 use Rattle.line.specs.Symbols.{symbol_of}
 use Rattle.line.specs.Rules.{move}
-use Rattle.line.specs.Runs.{Passes}
 use Rattle.line.specs.declared.rules.Phase.TheVariants.{Frame}
 use Rattle.line.proofs.InRows.{move_same, passes_none, passes_opens, passes_quiet, quiet_flaws}
 use mathlib.Core.Bool.{true}

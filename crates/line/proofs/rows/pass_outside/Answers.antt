@@ -1,9 +1,6 @@
 -- Each byte leaves the line outside, up to an STX.
-use borrow.Author.Rules.{rules}
-use Prim.Native.Nat.{◌-◌}
-use lib.ListN.{get_or, length}
+use lib.ListN.{get_or}
 use native.Mathlib.Omega.{arith}
-use Rattle.line.specs.Runs.{Passes}
 use Rattle.line.specs.declared.rules.Phase.TheVariants.{Outside}
 use Rattle.line.proofs.InRows.{not_stx, passes_none, passes_other, passes_quiet}
 use Rattle.line.proofs.Laws.FrameNumbers.{at_other}

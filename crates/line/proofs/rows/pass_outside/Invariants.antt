@@ -1,12 +1,8 @@
 -- Each byte leaves the line outside, up to an STX.
-use borrow.Author.Rules.{rules}
 use Prim.Native.Nat.{◌-◌}
-use lib.ListN.{get_or, length}
-use native.Mathlib.Omega.{arith}
+use lib.ListN.{length}
 use Rattle.line.specs.Runs.{Passes}
 use Rattle.line.specs.declared.rules.Phase.TheVariants.{Outside}
-use Rattle.line.proofs.InRows.{not_stx, passes_none, passes_other, passes_quiet}
-use Rattle.line.proofs.Laws.FrameNumbers.{at_other}
 use Rattle.line.proofs.rows.pass_outside.Given as goal
 
 abbrev pub invariant-loop-i : goal.invariant-loop-i

@@ -1,5 +1,4 @@
 -- In a group nothing is taken; elsewhere no content is looked at.
-use borrow.Author.Rules.{rules}
 use mathlib.Core.Path.{◌∙◌, refl, sym}
 use Rattle.line.proofs.InRows.{runs_group, runs_passed}
 use Rattle.line.proofs.rows.take_quiet.Goals as goal

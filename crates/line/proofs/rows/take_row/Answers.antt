@@ -1,5 +1,4 @@
 -- One row behind the other.
-use borrow.Author.Rules.{rules}
 use Rattle.line.proofs.InRows.{rows_joined, rows_most}
 use native.Mathlib.Omega.{arith}
 use Rattle.line.proofs.rows.take_row.Goals as goal

@@ -1,5 +1,4 @@
 -- In a group the characters are added; elsewhere nothing is taken.
-use borrow.Author.Rules.{rules}
 use Rattle.line.proofs.InRows.{takes_added, takes_none}
 use Rattle.line.proofs.rows.take_text.Goals as goal
 

@@ -1,5 +1,4 @@
 -- Each phase has its rules.
-use borrow.Author.Rules.{rules}
 use mathlib.Core.Path.{◌∙◌}
 use Rattle.line.proofs.rules.moved.Goals as goal
 

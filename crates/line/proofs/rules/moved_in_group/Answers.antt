@@ -1,5 +1,4 @@
 -- Each symbol has its clause.
-use borrow.Author.Rules.{rules}
 use Rattle.line.proofs.rules.moved_in_group.Goals as goal
 
 pub returns-in-Stx : goal.returns-in-Stx

@@ -1,7 +1,6 @@
 -- Each symbol by the tests that led to it.
 use Rattle.characters.specs.Answers.{pick}
 use Rattle.line.specs.Symbols.{sound_symbol, symbol_of}
-use borrow.Author.Rules.{rules}
 use borrow.Author.Tests.{eq-eqb, ne_eqb}
 use mathlib.Core.Path.{◌∙◌, sym}
 use Rattle.line.proofs.rules.symbol_of.Goals as goal

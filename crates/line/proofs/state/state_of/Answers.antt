@@ -1,5 +1,4 @@
 -- Each phase has its numbers.
-use borrow.Author.Rules.{rules}
 use Rattle.line.proofs.state.state_of.Goals as goal
 
 pub returns-in-Outside : goal.returns-in-Outside

@@ -1,5 +1,4 @@
 -- The frame behind the group, by what was heard.
-use borrow.Author.Rules.{rules}
 use Rattle.line.proofs.step.ended.Goals as goal
 
 pub returns-in-Accepted : goal.returns-in-Accepted

@@ -1,5 +1,4 @@
 -- All of a text are its first bytes, as many as there may be.
-use borrow.Author.Rules.{rules}
 use lib.ListN.{length-take}
 use lib.Seq.{take_all}
 use mathlib.Core.Path.{sym}

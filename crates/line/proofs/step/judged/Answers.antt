@@ -1,5 +1,4 @@
 -- Damaged, too long, or what the reader says.
-use borrow.Author.Rules.{rules}
 use Rattle.characters.specs.Answers.{pick}
 use Rattle.groups.proofs.Laws.Place.{placed_small}
 use Rattle.groups.specs.Place.{judgement}

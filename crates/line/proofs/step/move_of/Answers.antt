@@ -1,5 +1,4 @@
 -- CR in a group is that of the rules.
-use borrow.Author.Rules.{rules}
 use mathlib.Core.Path.{◌∙◌, ap}
 use Rattle.line.specs.Rules.{move}
 use Rattle.line.proofs.Reactions.{ends_group}

@@ -1,5 +1,4 @@
 -- A line that tells nothing.
-use borrow.Author.Rules.{rules}
 use Rattle.line.proofs.step.quiet.Goals as goal
 
 pub returns : goal.returns

@@ -1,5 +1,4 @@
 -- Each answer is that of the move that the byte makes.
-use borrow.Author.Rules.{rules}
 use Rattle.line.proofs.Reactions.{does_adds, does_judge, does_not_add, does_opens, does_quiet, does_says}
 use native.Mathlib.Omega.{arith}
 use Rattle.line.proofs.step.step.Goals as goal
