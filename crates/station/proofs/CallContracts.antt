@@ -13,10 +13,8 @@ use Rattle.groups.specs.declared.Stretch.{Stretch}
 use Rattle.groups.specs.declared.Written.{Written}
 use Rattle.line.specs.Steps.{FedTo, Fed}
 use Rattle.line.specs.declared.Taken.{Taken}
-use Rattle.station.specs.Records.{Station, Called, Rounded}
+use Rattle.station.specs.Records.{Called, Rounded}
 use Rattle.station.specs.Memory.{Memory, station_in, Sized}
-use Rattle.station.specs.Stations.{called, opening, delivering}
-use Rattle.station.specs.Rounds.{Round, round}
 use Rattle.station.specs.CallContracts.{called_as, Opens, Delivers, Serves}
 use Rattle.station.proofs.Fixed.{fixed}
 use Rattle.station.specs.declared.Reply.{Reply}

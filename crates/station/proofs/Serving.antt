@@ -16,7 +16,7 @@ use Rattle.line.specs.declared.Heard.{Heard}
 use Rattle.line.specs.declared.Heard.TheVariants as heard
 use Rattle.station.specs.Lines.{over, turning}
 use Rattle.station.specs.Stations.{zero_line}
-use Rattle.station.specs.Sheets.{Told, entry_of, offset_of, two_bytes, offsets, joined, entries}
+use Rattle.station.specs.Sheets.{entry_of, offset_of, two_bytes, offsets, joined, entries}
 use Rattle.station.specs.Rounds.{tells}
 use Rattle.station.specs.Parts.{entry_heard, offset_heard, told_by, ServesLines}
 use Rattle.station.proofs.Laws.Views.{Long, Longs, one_line, turn_view, turn_short}

@@ -1,6 +1,6 @@
 -- One line of the station (document 01, "The station"): its inbox, an opening, a delivery, a turn. The definitions are
 -- on the code's own record, for every value of it, and they are what the code's contracts cite.
-use Rattle.std.specs.Prelude.{Bool, not, List, [], ◌++◌, ℕ, ◌+◌, ◌-◌, eqb, ltb, leb, length, take, drop}
+use Rattle.std.specs.Prelude.{Bool, not, List, ◌++◌, ℕ, ◌+◌, ◌-◌, eqb, ltb, leb, length, take, drop}
 use Rattle.characters.specs.Answers.{Answer, given, need, pick}
 use Rattle.line.specs.Steps.{FedTo, fed}
 use Rattle.line.specs.declared.LineState.{LineState}

@@ -7,7 +7,7 @@ use Rattle.line.specs.Steps.{heard_answer}
 use Rattle.line.specs.Numbers.{shown_if}
 use Rattle.station.specs.Lines.{over, turning}
 use Rattle.station.specs.Sheets.{Told, smallest_sheet, sheet_of}
-use Rattle.station.specs.Records.{StationLine, Station, Rounded, Turned}
+use Rattle.station.specs.Records.{Station, Rounded, Turned}
 use Rattle.station.specs.declared.Refusal.{Refusal}
 use Rattle.station.specs.declared.Refusal.TheVariants.{SheetShort}
 use Rattle.station.specs.declared.Reply.TheVariants.{Done, Refused}

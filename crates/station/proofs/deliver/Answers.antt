@@ -2,8 +2,6 @@
 use Rattle.station.proofs.Inboxes.{delivered}
 use Rattle.station.proofs.Openings.{deliver_no_line}
 use Rattle.station.specs.Memory.{behind, station_in}
-use Rattle.station.specs.Records.{Station}
-use borrow.Author.Rules.{rules}
 use Rattle.station.proofs.deliver.Goals as goal
 
 pub returns-then-line-lt8 : goal.returns-then-line-lt8

@@ -1,8 +1,6 @@
 -- An opening, by its line number and its mode.
 use Rattle.station.proofs.Openings.{open_no_line, open_unknown, rows_opened}
 use Rattle.station.specs.Memory.{behind, station_in}
-use Rattle.station.specs.Records.{Station}
-use borrow.Author.Rules.{rules}
 use Rattle.station.proofs.open.Goals as goal
 
 pub returns-in-Opened : goal.returns-in-Opened

@@ -4,7 +4,6 @@ use lib.ListN.{length}
 use mathlib.Core.Path.{◌≡◌}
 use native.Mathlib.Omega.{arith}
 use Rattle.station.specs.Memory.{behind, station_in}
-use Rattle.station.specs.Records.{Station}
 use borrow.Author.Rules.{rules}
 use Rattle.station.proofs.round.Goals as goal
 

@@ -1,10 +1,9 @@
 -- So many bytes have been copied.
-use Prim.Native.Nat.{◌-◌, ◌≤◌}
 use Rattle.station.proofs.Copying.{copy_done, copy_more}
 use borrow.Author.Rules.{rules}
-use lib.ListN.{length, length-set}
-use lib.Seq.{paste, paste-zero}
-use mathlib.Core.Path.{◌≡◌, refl}
+use lib.ListN.{length-set}
+use lib.Seq.{paste-zero}
+use mathlib.Core.Path.{refl}
 use native.Mathlib.Omega.{arith}
 use Rattle.station.proofs.copy.copy_in.Goals as goal
 

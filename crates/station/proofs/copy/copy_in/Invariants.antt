@@ -1,11 +1,8 @@
 -- So many bytes have been copied.
 use Prim.Native.Nat.{◌-◌, ◌≤◌}
-use Rattle.station.proofs.Copying.{copy_done, copy_more}
-use borrow.Author.Rules.{rules}
-use lib.ListN.{length, length-set}
-use lib.Seq.{paste, paste-zero}
-use mathlib.Core.Path.{◌≡◌, refl}
-use native.Mathlib.Omega.{arith}
+use lib.ListN.{length}
+use lib.Seq.{paste}
+use mathlib.Core.Path.{◌≡◌}
 use Rattle.station.proofs.copy.copy_in.Given as goal
 
 abbrev pub invariant-loop-i : goal.invariant-loop-i

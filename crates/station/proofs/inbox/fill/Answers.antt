@@ -2,8 +2,6 @@
 use Rattle.station.proofs.Inboxes.{fill_closed, fill_done, fill_over, stopped}
 use Rattle.station.specs.Parts.{Waits}
 use Rattle.station.specs.Memory.{rows_behind}
-use Rattle.station.specs.Records.{StationLine}
-use borrow.Author.Rules.{rules}
 use mathlib.Core.Path.{refl}
 use native.Mathlib.Omega.{arith}
 use Rattle.station.proofs.inbox.fill.Goals as goal

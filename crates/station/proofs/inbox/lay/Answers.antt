@@ -1,8 +1,6 @@
 -- What waits is copied to the front, and the bytes behind it.
 use Rattle.station.proofs.Inboxes.{laid_is}
 use borrow.Author.Rules.{rules}
-use lib.ListN.{length}
-use mathlib.Core.Path.{◌≡◌}
 use Rattle.station.proofs.inbox.lay.Goals as goal
 
 pub returns : goal.returns

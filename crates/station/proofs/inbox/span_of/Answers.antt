@@ -1,6 +1,5 @@
 -- Where the waiting bytes lie.
 use Rattle.station.proofs.Inboxes.{all_there, cut_short, past_end}
-use borrow.Author.Rules.{rules}
 use Rattle.station.proofs.inbox.span_of.Goals as goal
 
 pub returns-then-from-gt256 : goal.returns-then-from-gt256

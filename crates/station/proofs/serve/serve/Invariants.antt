@@ -1,12 +1,9 @@
 -- What is left of the lines decides.
-use Prim.Native.Nat.{◌*◌, ◌+◌, ◌-◌, ◌%◌, ◌/◌, ◌≤◌}
-use Rattle.station.proofs.RowsServing.{lines_eight, lines_long, rows_more, rows_none}
+use Prim.Native.Nat.{◌*◌, ◌+◌, ◌-◌, ◌≤◌}
 use Rattle.station.specs.Memory.{lines_from}
-use Rattle.station.proofs.Serving.{ZerosFrom, serve_end, served_all, served_from, serves_all, zeros_at_first, zeros_behind, zeros_behind_two, zeros_on}
-use borrow.Author.Rules.{rules}
-use lib.ListN.{length, length-set}
-use mathlib.Core.Path.{◌∙◌, ◌≡◌, refl}
-use native.Mathlib.Omega.{arith}
+use Rattle.station.proofs.Serving.{ZerosFrom, served_all, served_from}
+use lib.ListN.{length}
+use mathlib.Core.Path.{◌≡◌}
 use Rattle.station.proofs.serve.serve.Given as goal
 
 abbrev pub invariant-loop-i : goal.invariant-loop-i

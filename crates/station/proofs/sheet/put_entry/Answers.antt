@@ -1,8 +1,6 @@
 -- An entry for each case of what was heard.
 use Rattle.station.proofs.Entries.{fits_accepted, put_accepted, put_nothing, put_told}
 use borrow.Author.Rules.{rules}
-use lib.ListN.{length}
-use mathlib.Core.Path.{◌≡◌}
 use native.Mathlib.Omega.{arith}
 use Rattle.station.proofs.sheet.put_entry.Goals as goal
 

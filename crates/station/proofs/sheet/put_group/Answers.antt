@@ -1,8 +1,6 @@
 -- The head of the entry, then label, stamp and data.
 use Rattle.station.proofs.Entries.{put_group}
 use borrow.Author.Rules.{rules}
-use lib.ListN.{length}
-use mathlib.Core.Path.{◌≡◌}
 use Rattle.station.proofs.sheet.put_group.Goals as goal
 
 pub returns : goal.returns

@@ -1,6 +1,5 @@
 -- A part of the content on the sheet.
 use Rattle.station.proofs.Entries.{part_put}
-use borrow.Author.Rules.{rules}
 use mathlib.Core.Path.{refl}
 use Rattle.station.proofs.sheet.put_part.Goals as goal
 

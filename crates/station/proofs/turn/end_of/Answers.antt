@@ -3,7 +3,6 @@ use Prim.Native.Nat.{◌-◌}
 use Rattle.characters.specs.Answers.{pick}
 use Rattle.station.specs.Lines.{most_in_turn}
 use Rattle.station.specs.Parts.{end_of}
-use borrow.Author.Rules.{rules}
 use borrow.Author.Tests.{le-ltb, lt-ltb}
 use Rattle.station.proofs.turn.end_of.Goals as goal
 

@@ -5,8 +5,6 @@ use Rattle.station.specs.Lines.{most_in_turn}
 use Rattle.station.specs.Parts.{Waits}
 use Rattle.station.specs.Memory.{rows_behind}
 use Rattle.station.proofs.Laws.Views.{Long}
-use Rattle.station.specs.Records.{StationLine}
-use borrow.Author.Rules.{rules}
 use mathlib.Core.Path.{refl}
 use native.Mathlib.Omega.{arith}
 use Rattle.station.proofs.turn.turn.Goals as goal
