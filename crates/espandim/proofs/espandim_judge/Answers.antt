@@ -1,6 +1,5 @@
 -- The number of the verdict, and the stretches in the lent numbers.
 use Rattle.espandim.proofs.Telling.{judges}
-use borrow.Author.Rules.{rules}
 use Rattle.espandim.proofs.espandim_judge.Goals as goal
 
 pub returns : goal.returns

@@ -4,8 +4,7 @@ use Rattle.station.proofs.Openings.{deliver_no_line}
 use Rattle.station.specs.History.{delivers}
 use Rattle.station.proofs.Laws.Refusals.{delivers_called}
 use mathlib.Core.Path.{refl}
-use Rattle.station.specs.Memory.{Memory, behind, station_in}
-use borrow.Author.Rules.{rules}
+use Rattle.station.specs.Memory.{behind, station_in}
 use Rattle.espandim.proofs.espandim_rows_deliver.Goals as goal
 
 pub returns-then-line-lt8 : goal.returns-then-line-lt8

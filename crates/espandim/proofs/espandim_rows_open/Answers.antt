@@ -6,8 +6,7 @@ use Rattle.station.specs.Stations.{called}
 use Rattle.station.proofs.Laws.Refusals.{opening_no_mode, opens_called}
 use mathlib.Core.Path.{refl, sym, ap}
 use native.Mathlib.Omega.{arith}
-use Rattle.station.specs.Memory.{Memory, behind, station_in}
-use borrow.Author.Rules.{rules}
+use Rattle.station.specs.Memory.{behind, station_in}
 use Rattle.espandim.proofs.espandim_rows_open.Goals as goal
 
 pub returns-then-mode-lt256 : goal.returns-then-mode-lt256

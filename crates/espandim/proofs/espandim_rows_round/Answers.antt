@@ -1,7 +1,6 @@
 -- A round, and the number of its reply.
 use Rattle.espandim.proofs.Telling.{round_told}
-use Rattle.station.specs.Memory.{Memory, behind}
-use borrow.Author.Rules.{rules}
+use Rattle.station.specs.Memory.{behind}
 use Rattle.espandim.proofs.espandim_rows_round.Goals as goal
 
 pub returns : goal.returns

@@ -3,7 +3,6 @@ use Rattle.groups.specs.Groups.{group_of}
 use Rattle.groups.specs.Writing.{writing}
 use Rattle.espandim.proofs.Telling.{writes}
 use lib.ListN.{length}
-use borrow.Author.Rules.{rules}
 use Rattle.espandim.proofs.espandim_write.Goals as goal
 
 pub returns : goal.returns

@@ -1,7 +1,6 @@
 -- A judging, by whether a byte holds the mode.
 use Rattle.espandim.proofs.Telling.{no_mode}
 use native.Mathlib.Omega.{arith}
-use borrow.Author.Rules.{rules}
 use Rattle.espandim.proofs.judged.Goals as goal
 
 pub returns-then-mode-lt256 : goal.returns-then-mode-lt256

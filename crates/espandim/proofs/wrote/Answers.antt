@@ -8,7 +8,6 @@ use Rattle.groups.proofs.Laws.Unknown.{writing_no_mode}
 use lib.ListN.{length}
 use mathlib.Core.Path.{refl}
 use native.Mathlib.Omega.{arith}
-use borrow.Author.Rules.{rules}
 use Rattle.espandim.proofs.wrote.Goals as goal
 
 pub returns-then-mode-lt256 : goal.returns-then-mode-lt256
