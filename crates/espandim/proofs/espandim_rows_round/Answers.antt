@@ -4,4 +4,5 @@ use Rattle.station.specs.Memory.{behind}
 use Rattle.espandim.proofs.espandim_rows_round.Goals as goal
 
 pub returns : goal.returns
-returns c = round_told (behind c.args.marks.now c.args.places.now c.args.contents.now c.args.inboxes.now) _ c.args.sheet.now _ _ _ c.round-told.ensures c.number_of.ensures
+returns c =
+    round_told (behind c.args.marks.now c.args.places.now c.args.contents.now c.args.inboxes.now) _ c.args.sheet.now _ _ _ c.round-told.ensures c.number_of.ensures

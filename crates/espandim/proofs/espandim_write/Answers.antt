@@ -6,6 +6,7 @@ use lib.ListN.{length}
 use Rattle.espandim.proofs.espandim_write.Goals as goal
 
 pub returns : goal.returns
-returns c = let group = group_of c.args.label.now c.args.stamp.now c.args.«data».now in
+returns c =
+    let group = group_of c.args.label.now c.args.stamp.now c.args.«data».now in
     writes (writing c.args.mode group (length c.args.buffer.now)) c.args.buffer.now _ c.wrote-done.result _
     c.wrote-done.ensures c.number_of_writing.ensures

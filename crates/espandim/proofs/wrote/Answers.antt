@@ -14,7 +14,8 @@ pub returns-then-mode-lt256 : goal.returns-then-mode-lt256
 returns-then-mode-lt256 c = c.write.ensures
 
 pub returns : goal.returns
-returns c = let group = group_of c.args.label.now c.args.stamp.now c.args.«data».now in
+returns c =
+    let group = group_of c.args.label.now c.args.stamp.now c.args.«data».now in
     let room = length c.args.buffer.now in
     wrote_for (writing c.args.mode group room) (refused ModeUnknown) c.args.buffer.now c.args.buffer.now _
     (writing_no_mode c.args.mode (omega (arith, c.if-mode-lt256.false)) group room) (record { tells = refl; leaves = refl })

@@ -16,16 +16,19 @@ at-start p =
 
 pub returns-then-content-start : goal.returns-then-content-start
 unfolding part_of part_start pick
-returns-then-content-start c = let over = lt-leb (c.args.stretch.start + c.args.stretch.length) (length c.args.content.now) (omega arith) in
+returns-then-content-start c =
+    let over = lt-leb (c.args.stretch.start + c.args.stretch.length) (length c.args.content.now) (omega arith) in
     record { lies = rw over (at-start c.args.content.ref_ptr); bytes = rw over }
 
 pub returns-then-content-start-2 : goal.returns-then-content-start-2
 unfolding part_of part_start pick
-returns-then-content-start-2 c = let over = lt-leb (c.args.stretch.start + c.args.stretch.length) (length c.args.content.now) (omega arith) in
+returns-then-content-start-2 c =
+    let over = lt-leb (c.args.stretch.start + c.args.stretch.length) (length c.args.content.now) (omega arith) in
     record { lies = rw over (at-start c.args.content.ref_ptr); bytes = rw over }
 
 pub returns : goal.returns
 unfolding part_of part_start pick
-returns c = let e : c.args.stretch.start + c.args.stretch.length - c.args.stretch.start ≡ c.args.stretch.length = omega arith in
+returns c =
+    let e : c.args.stretch.start + c.args.stretch.length - c.args.stretch.start ≡ c.args.stretch.length = omega arith in
     let fits = le-leb (c.args.stretch.start + c.args.stretch.length) (length c.args.content.now) (omega arith) in
     record { lies = rw fits; bytes = rw (e, fits) }

@@ -12,7 +12,8 @@ pub loop-i-init : goal.loop-i-init
 loop-i-init c = (search rules, refl)
 
 pub overflow_add-i : goal.overflow_add-i
-overflow_add-i c = omega (arith, run_most c.loop-i.at c.loop-i.content c.args.bytes.now c.loop-i.i c.loop-i-test.true _ _ c.take_row-row.ensures)
+overflow_add-i c =
+    omega (arith, run_most c.loop-i.at c.loop-i.content c.args.bytes.now c.loop-i.i c.loop-i-test.true _ _ c.take_row-row.ensures)
 
 pub returns-then-i-bytes : goal.returns-then-i-bytes
 returns-then-i-bytes c = rw c.state_of.ensures (as_fed _ _ (c.loop-i.invariant.1
@@ -21,16 +22,20 @@ returns-then-i-bytes c = rw c.state_of.ensures (as_fed _ _ (c.loop-i.invariant.1
     ∙ feed_over _ _ c.args.bytes.now _ (omega arith)))
 
 pub bounds-bytes-i : goal.bounds-bytes-i
-bounds-bytes-i c = omega (arith, run_most c.loop-i.at c.loop-i.content c.args.bytes.now c.loop-i.i c.loop-i-test.true _ _ c.take_row-row.ensures)
+bounds-bytes-i c =
+    omega (arith, run_most c.loop-i.at c.loop-i.content c.args.bytes.now c.loop-i.i c.loop-i-test.true _ _ c.take_row-row.ensures)
 
 pub overflow_add-i-in-loop-i : goal.overflow_add-i-in-loop-i
-overflow_add-i-in-loop-i c = omega (arith, run_most c.loop-i.at c.loop-i.content c.args.bytes.now c.loop-i.i c.loop-i-test.true _ _ c.take_row-row.ensures)
+overflow_add-i-in-loop-i c =
+    omega (arith, run_most c.loop-i.at c.loop-i.content c.args.bytes.now c.loop-i.i c.loop-i-test.true _ _ c.take_row-row.ensures)
 
 pub loop-i-smaller : goal.loop-i-smaller
-loop-i-smaller c = omega (arith, run_most c.loop-i.at c.loop-i.content c.args.bytes.now c.loop-i.i c.loop-i-test.true _ _ c.take_row-row.ensures)
+loop-i-smaller c =
+    omega (arith, run_most c.loop-i.at c.loop-i.content c.args.bytes.now c.loop-i.i c.loop-i-test.true _ _ c.take_row-row.ensures)
 
 pub loop-i-preserved : goal.loop-i-preserved
-loop-i-preserved c = let most : c.loop-i.i + c.take_row-row.result.count ≤ length c.args.bytes.now =
+loop-i-preserved c =
+    let most : c.loop-i.i + c.take_row-row.result.count ≤ length c.args.bytes.now =
     run_most c.loop-i.at c.loop-i.content c.args.bytes.now c.loop-i.i c.loop-i-test.true _ _ c.take_row-row.ensures in (
       omega arith,
       c.loop-i.invariant.1
@@ -42,7 +47,8 @@ loop-i-preserved c = let most : c.loop-i.i + c.take_row-row.result.count ≤ len
     )
 
 pub returns-in-Accepted : goal.returns-in-Accepted
-returns-in-Accepted c = let most : c.loop-i.i + c.take_row-row.result.count ≤ length c.args.bytes.now =
+returns-in-Accepted c =
+    let most : c.loop-i.i + c.take_row-row.result.count ≤ length c.args.bytes.now =
     run_most c.loop-i.at c.loop-i.content c.args.bytes.now c.loop-i.i c.loop-i-test.true _ _ c.take_row-row.ensures in
     as_fed _ _ (c.loop-i.invariant.1
     ∙ run_on c.loop-i.at c.loop-i.content c.args.bytes.now c.loop-i.i c.loop-i-test.true _ _
@@ -52,7 +58,8 @@ returns-in-Accepted c = let most : c.loop-i.i + c.take_row-row.result.count ≤ 
     c.take_row-row.ensures.held_most c.after-frame.ensures c.step-stepped.ensures) _ c.in-Accepted.is)
 
 pub returns-in-Told : goal.returns-in-Told
-returns-in-Told c = let most : c.loop-i.i + c.take_row-row.result.count ≤ length c.args.bytes.now =
+returns-in-Told c =
+    let most : c.loop-i.i + c.take_row-row.result.count ≤ length c.args.bytes.now =
     run_most c.loop-i.at c.loop-i.content c.args.bytes.now c.loop-i.i c.loop-i-test.true _ _ c.take_row-row.ensures in
     as_fed _ _ (c.loop-i.invariant.1
     ∙ run_on c.loop-i.at c.loop-i.content c.args.bytes.now c.loop-i.i c.loop-i-test.true _ _
@@ -62,4 +69,5 @@ returns-in-Told c = let most : c.loop-i.i + c.take_row-row.result.count ≤ leng
     c.take_row-row.ensures.held_most c.after-frame.ensures c.step-stepped.ensures) _ c.in-Told.is)
 
 pub returns : goal.returns
-returns c = as_fed _ _ (c.loop-i.invariant.1 ∙ feed_over c.loop-i.at c.loop-i.content c.args.bytes.now c.loop-i.i (omega arith))
+returns c =
+    as_fed _ _ (c.loop-i.invariant.1 ∙ feed_over c.loop-i.at c.loop-i.content c.args.bytes.now c.loop-i.i (omega arith))

@@ -24,4 +24,5 @@ returns-else-taken c = omega (
 )
 
 pub returns : goal.returns
-returns c = omega (arith, c.loop-i.invariant.2, agreed_over c.args.picture.now c.args.«data».now c.loop-i.i (omega arith))
+returns c =
+    omega (arith, c.loop-i.invariant.2, agreed_over c.args.picture.now c.args.«data».now c.loop-i.i (omega arith))

@@ -21,11 +21,13 @@ returns-then-n-smallest c = rw (eq-eqb _ _ c.if-stamp-ne0.false, lt-leb _ _ c.if
 
 pub returns-then-largest-n : goal.returns-then-largest-n
 unfolding checked need stamp_as width_right
-returns-then-largest-n c = rw (eq-eqb _ _ c.if-stamp-ne0.false, le-leb _ _ c.if-n-smallest.false, lt-leb _ _ c.if-largest-n.true)
+returns-then-largest-n c =
+    rw (eq-eqb _ _ c.if-stamp-ne0.false, le-leb _ _ c.if-n-smallest.false, lt-leb _ _ c.if-largest-n.true)
 
 pub returns-then-surely_fits : goal.returns-then-surely_fits
 unfolding checked need stamp_as width_right kind_right
-returns-then-surely_fits c = let taken : some_fits (forms (formats_from c.args.forms.first c.args.forms.count)) c.args.«data».now ≡ true =
+returns-then-surely_fits c =
+    let taken : some_fits (forms (formats_from c.args.forms.first c.args.forms.count)) c.args.«data».now ≡ true =
     is_true (c.surely_fits.ensures c.if-surely_fits.true) in
     rw (
       eq-eqb _ _ c.if-stamp-ne0.false,

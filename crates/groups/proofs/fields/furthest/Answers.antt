@@ -7,7 +7,8 @@ use native.Mathlib.Omega.{arith}
 use Rattle.groups.proofs.fields.furthest.Goals as goal
 
 pub loop-i-init : goal.loop-i-init
-loop-i-init c = let whole : c.args.forms.count - 0 ≡ c.args.forms.count = omega arith in
+loop-i-init c =
+    let whole : c.args.forms.count - 0 ≡ c.args.forms.count = omega arith in
     let same : c.args.forms.first + 0 ≡ c.args.forms.first = omega arith in
     (search rules, rw (whole, same) (omega arith))
 
@@ -19,4 +20,5 @@ loop-i-preserved c = (
 )
 
 pub returns : goal.returns
-returns c = sym (c.loop-i.invariant.1 ∙ furthest_over c.args.forms.first c.args.forms.count c.args.«data».now c.loop-i.i c.loop-i.best (omega arith))
+returns c =
+    sym (c.loop-i.invariant.1 ∙ furthest_over c.args.forms.first c.args.forms.count c.args.«data».now c.loop-i.i c.loop-i.best (omega arith))

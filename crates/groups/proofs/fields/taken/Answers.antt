@@ -11,16 +11,20 @@ returns-then-picture-eq57 c = c.of_kind.ensures ∙ rw (eq-eqb _ _ c.if-picture-
 
 pub returns-then-picture-eq48 : goal.returns-then-picture-eq48
 unfolding takes pick
-returns-then-picture-eq48 c = c.of_kind-then-picture-eq48.ensures ∙ rw (ne_eqb _ _ c.if-picture-eq57.false, eq-eqb _ _ c.if-picture-eq48.true)
+returns-then-picture-eq48 c =
+    c.of_kind-then-picture-eq48.ensures ∙ rw (ne_eqb _ _ c.if-picture-eq57.false, eq-eqb _ _ c.if-picture-eq48.true)
 
 pub returns-then-picture-eq42 : goal.returns-then-picture-eq42
 unfolding takes pick
-returns-then-picture-eq42 c = c.of_kind-then-picture-eq42.ensures ∙ rw (ne_eqb _ _ c.if-picture-eq57.false, ne_eqb _ _ c.if-picture-eq48.false, eq-eqb _ _ c.if-picture-eq42.true)
+returns-then-picture-eq42 c =
+    c.of_kind-then-picture-eq42.ensures ∙ rw (ne_eqb _ _ c.if-picture-eq57.false, ne_eqb _ _ c.if-picture-eq48.false, eq-eqb _ _ c.if-picture-eq42.true)
 
 pub returns-then-picture-eq44 : goal.returns-then-picture-eq44
 unfolding takes pick
-returns-then-picture-eq44 c = rw (ne_eqb _ _ c.if-picture-eq57.false, ne_eqb _ _ c.if-picture-eq48.false, ne_eqb _ _ c.if-picture-eq42.false, eq-eqb _ _ c.if-picture-eq44.true)
+returns-then-picture-eq44 c =
+    rw (ne_eqb _ _ c.if-picture-eq57.false, ne_eqb _ _ c.if-picture-eq48.false, ne_eqb _ _ c.if-picture-eq42.false, eq-eqb _ _ c.if-picture-eq44.true)
 
 pub returns : goal.returns
 unfolding takes pick
-returns c = rw (ne_eqb _ _ c.if-picture-eq57.false, ne_eqb _ _ c.if-picture-eq48.false, ne_eqb _ _ c.if-picture-eq42.false, ne_eqb _ _ c.if-picture-eq44.false)
+returns c =
+    rw (ne_eqb _ _ c.if-picture-eq57.false, ne_eqb _ _ c.if-picture-eq48.false, ne_eqb _ _ c.if-picture-eq42.false, ne_eqb _ _ c.if-picture-eq44.false)

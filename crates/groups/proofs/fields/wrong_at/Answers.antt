@@ -24,4 +24,5 @@ returns-else-of_kind c = omega (
 )
 
 pub returns : goal.returns
-returns c = omega (arith, c.loop-i.invariant.1, wrong_over (of_kind c.args.kind) c.args.text.now c.loop-i.i (omega arith))
+returns c =
+    omega (arith, c.loop-i.invariant.1, wrong_over (of_kind c.args.kind) c.args.text.now c.loop-i.i (omega arith))

@@ -4,10 +4,12 @@ use native.Mathlib.Omega.{arith}
 use Rattle.groups.proofs.fields.wrong_formed.Goals as goal
 
 pub returns-then-reached-eq0 : goal.returns-then-reached-eq0
-returns-then-reached-eq0 c = (omega (arith, c.furthest-reached.ensures, c.if-reached-eq0.true, formed_wrong c.args.forms c.args.«data».now), omega arith)
+returns-then-reached-eq0 c =
+    (omega (arith, c.furthest-reached.ensures, c.if-reached-eq0.true, formed_wrong c.args.forms c.args.«data».now), omega arith)
 
 pub returns : goal.returns
-returns c = let e = formed_wrong c.args.forms c.args.«data».now in (
-  omega (arith, c.furthest-reached.ensures, e),
-  omega (arith, c.furthest-reached.ensures, e, wrong_most c.args.forms c.args.«data».now),
-)
+returns c =
+    let e = formed_wrong c.args.forms c.args.«data».now in (
+      omega (arith, c.furthest-reached.ensures, e),
+      omega (arith, c.furthest-reached.ensures, e, wrong_most c.args.forms c.args.«data».now),
+    )

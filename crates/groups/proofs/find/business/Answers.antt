@@ -13,42 +13,50 @@ use Rattle.groups.proofs.find.business.Goals as goal
 
 pub returns-then-key-3 : goal.returns-then-key-3
 unfolding business_rows formats_from numbered under packed unpacked form_of pick
-returns-then-key-3 c = decides Business 0 9 _ c.args.key _ refl tt tt (lit< tt) (lit≤ tt) (λ p. absurd (not-suc-le-zero p))
+returns-then-key-3 c =
+    decides Business 0 9 _ c.args.key _ refl tt tt (lit< tt) (lit≤ tt) (λ p. absurd (not-suc-le-zero p))
     (λ p. c.if-key-3.true) c.nearest.ensures
 
 pub returns-then-key-2 : goal.returns-then-key-2
 unfolding business_rows formats_from numbered under packed unpacked form_of pick
-returns-then-key-2 c = decides Business 9 18 _ c.args.key _ refl tt tt (lit< tt) (lit≤ tt) (λ p. c.if-key-3.false)
+returns-then-key-2 c =
+    decides Business 9 18 _ c.args.key _ refl tt tt (lit< tt) (lit≤ tt) (λ p. c.if-key-3.false)
     (λ p. c.if-key-2.true) c.nearest-then-key-2.ensures
 
 pub returns-then-key-4 : goal.returns-then-key-4
 unfolding business_rows formats_from numbered under packed unpacked form_of pick
-returns-then-key-4 c = decides Business 18 27 _ c.args.key _ refl tt tt (lit< tt) (lit≤ tt) (λ p. c.if-key-2.false)
+returns-then-key-4 c =
+    decides Business 18 27 _ c.args.key _ refl tt tt (lit< tt) (lit≤ tt) (λ p. c.if-key-2.false)
     (λ p. c.if-key-4.true) c.nearest-then-key-4.ensures
 
 pub returns-then-key : goal.returns-then-key
 unfolding business_rows formats_from numbered under packed unpacked form_of pick
-returns-then-key c = decides Business 27 36 _ c.args.key _ refl tt tt (lit< tt) (lit≤ tt) (λ p. c.if-key-4.false)
+returns-then-key c =
+    decides Business 27 36 _ c.args.key _ refl tt tt (lit< tt) (lit≤ tt) (λ p. c.if-key-4.false)
     (λ p. c.if-key.true) c.nearest-then-key.ensures
 
 pub returns-then-key-6 : goal.returns-then-key-6
 unfolding business_rows formats_from numbered under packed unpacked form_of pick
-returns-then-key-6 c = decides Business 36 45 _ c.args.key _ refl tt tt (lit< tt) (lit≤ tt) (λ p. c.if-key.false)
+returns-then-key-6 c =
+    decides Business 36 45 _ c.args.key _ refl tt tt (lit< tt) (lit≤ tt) (λ p. c.if-key.false)
     (λ p. c.if-key-6.true) c.nearest-then-key-6.ensures
 
 pub returns-then-key-5 : goal.returns-then-key-5
 unfolding business_rows formats_from numbered under packed unpacked form_of pick
-returns-then-key-5 c = decides Business 45 54 _ c.args.key _ refl tt tt (lit< tt) (lit≤ tt) (λ p. c.if-key-6.false)
+returns-then-key-5 c =
+    decides Business 45 54 _ c.args.key _ refl tt tt (lit< tt) (lit≤ tt) (λ p. c.if-key-6.false)
     (λ p. c.if-key-5.true) c.nearest-then-key-5.ensures
 
 pub returns-then-key-7 : goal.returns-then-key-7
 unfolding business_rows formats_from numbered under packed unpacked form_of pick
-returns-then-key-7 c = decides Business 54 63 _ c.args.key _ refl tt tt (lit< tt) (lit≤ tt) (λ p. c.if-key-5.false)
+returns-then-key-7 c =
+    decides Business 54 63 _ c.args.key _ refl tt tt (lit< tt) (lit≤ tt) (λ p. c.if-key-5.false)
     (λ p. c.if-key-7.true) c.nearest-then-key-7.ensures
 
 pub returns-then-key-8 : goal.returns-then-key-8
 unfolding business_rows formats_from numbered under packed unpacked form_of pick
-returns-then-key-8 c = decides Business 63 72 _ c.args.key _ refl tt tt (lit< tt) (lit≤ tt) (λ p. c.if-key-7.false)
+returns-then-key-8 c =
+    decides Business 63 72 _ c.args.key _ refl tt tt (lit< tt) (lit≤ tt) (λ p. c.if-key-7.false)
     (λ p. c.if-key-8.true) c.nearest-then-key-8.ensures
 
 pub returns : goal.returns

@@ -29,6 +29,7 @@ pub returns-in-7 : goal.returns-in-7
 returns-in-7 c = rw c.in-7.is
 
 pub returns-in_default : goal.returns-in_default
-returns-in_default c = let h : 8 ≤ c.args.n = omega arith in
+returns-in_default c =
+    let h : 8 ≤ c.args.n = omega arith in
     let z : 8 - c.args.n ≡ 0 = omega arith in
     rw z (omega arith)

@@ -18,7 +18,8 @@ returns-in-Historic c = found_by Historic c.args.n c.args.text.now _ _ c.histori
     c.if-n-gt9.false c.historic.ensures ∙ rw c.in-Historic.is
 
 pub returns-in-Standard : goal.returns-in-Standard
-returns-in-Standard c = found_by Standard c.args.n c.args.text.now _ _ c.standard.result c.plain_rule-in-Standard.ensures
+returns-in-Standard c =
+    found_by Standard c.args.n c.args.text.now _ _ c.standard.result c.plain_rule-in-Standard.ensures
     c.key_of-key.ensures c.tail_of-tail.ensures
     (λ i. omega (arith, c.type_inv.text i)) c.requires c.if-n-eq0.false
     c.if-n-gt9.false c.standard.ensures ∙ rw c.in-Standard.is

@@ -12,17 +12,20 @@ use Rattle.groups.proofs.find.historic.Goals as goal
 
 pub returns-then-key-2 : goal.returns-then-key-2
 unfolding historic_rows packed unpacked form_of pick
-returns-then-key-2 c = decides Historic 0 9 _ c.args.key _ refl tt tt (lit< tt) (lit≤ tt) (λ p. absurd (not-suc-le-zero p))
+returns-then-key-2 c =
+    decides Historic 0 9 _ c.args.key _ refl tt tt (lit< tt) (lit≤ tt) (λ p. absurd (not-suc-le-zero p))
     (λ p. c.if-key-2.true) c.nearest.ensures
 
 pub returns-then-key : goal.returns-then-key
 unfolding historic_rows packed unpacked form_of pick
-returns-then-key c = decides Historic 9 18 _ c.args.key _ refl tt tt (lit< tt) (lit≤ tt) (λ p. c.if-key-2.false)
+returns-then-key c =
+    decides Historic 9 18 _ c.args.key _ refl tt tt (lit< tt) (lit≤ tt) (λ p. c.if-key-2.false)
     (λ p. c.if-key.true) c.nearest-then-key.ensures
 
 pub returns-then-key-3 : goal.returns-then-key-3
 unfolding historic_rows packed unpacked form_of pick
-returns-then-key-3 c = decides Historic 18 27 _ c.args.key _ refl tt tt (lit< tt) (lit≤ tt) (λ p. c.if-key.false)
+returns-then-key-3 c =
+    decides Historic 18 27 _ c.args.key _ refl tt tt (lit< tt) (lit≤ tt) (λ p. c.if-key.false)
     (λ p. c.if-key-3.true) c.nearest-then-key-3.ensures
 
 pub returns : goal.returns

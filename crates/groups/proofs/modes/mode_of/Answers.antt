@@ -14,8 +14,10 @@ returns-then-number-eq1 c = simp (ne_eqb _ _ c.if-number-eq0.false, eq-eqb _ _ c
 
 pub returns-then-number-eq2 : goal.returns-then-number-eq2
 unfolding mode_of pick
-returns-then-number-eq2 c = simp (ne_eqb _ _ c.if-number-eq0.false, ne_eqb _ _ c.if-number-eq1.false, eq-eqb _ _ c.if-number-eq2.true)
+returns-then-number-eq2 c =
+    simp (ne_eqb _ _ c.if-number-eq0.false, ne_eqb _ _ c.if-number-eq1.false, eq-eqb _ _ c.if-number-eq2.true)
 
 pub returns : goal.returns
 unfolding mode_of pick
-returns c = simp (ne_eqb _ _ c.if-number-eq0.false, ne_eqb _ _ c.if-number-eq1.false, ne_eqb _ _ c.if-number-eq2.false)
+returns c =
+    simp (ne_eqb _ _ c.if-number-eq0.false, ne_eqb _ _ c.if-number-eq1.false, ne_eqb _ _ c.if-number-eq2.false)

@@ -8,7 +8,8 @@ use Rattle.groups.proofs.quick.is_negative_of_5.Goals as goal
 
 pub returns-then-lies_between : goal.returns-then-lies_between
 unfolding numbered under form_of pick takes
-returns-then-lies_between c = λ e. bounded_fits (form_of (format_at 22)) _ _ _ tt (c.lies_between.ensures c.if-lies_between.true)
+returns-then-lies_between c =
+    λ e. bounded_fits (form_of (format_at 22)) _ _ _ tt (c.lies_between.ensures c.if-lies_between.true)
 
 pub returns : goal.returns
 unfolding numbered under form_of pick takes

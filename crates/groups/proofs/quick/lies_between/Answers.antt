@@ -11,5 +11,6 @@ pub returns-then-most-n : goal.returns-then-most-n
 returns-then-most-n c = λ e. absurd (from_true e)
 
 pub returns : goal.returns
-returns c = λ e. ends_bounded c.args.least c.args.low.now c.args.high.now c.args.«data».now c.requires (omega arith) (omega arith)
+returns c =
+    λ e. ends_bounded c.args.least c.args.low.now c.args.high.now c.args.«data».now c.requires (omega arith) (omega arith)
     (c.all_between.ensures e)

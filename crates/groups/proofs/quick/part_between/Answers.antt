@@ -5,7 +5,8 @@ use native.Mathlib.Omega.{arith}
 use Rattle.groups.proofs.quick.part_between.Goals as goal
 
 pub loop-i-init : goal.loop-i-init
-loop-i-init c = (search rules, search rules, λ e. between_none c.args.low.now c.args.high.now c.args.«data».now c.args.from)
+loop-i-init c =
+    (search rules, search rules, λ e. between_none c.args.low.now c.args.high.now c.args.«data».now c.args.from)
 
 pub loop-i-preserved : goal.loop-i-preserved
 loop-i-preserved c = (

@@ -5,7 +5,8 @@ use native.Mathlib.Omega.{arith}
 use Rattle.groups.proofs.quick.surely_fits.Goals as goal
 
 pub returns-then-surely_takes : goal.returns-then-surely_takes
-returns-then-surely_takes c = λ e. one_fits c.args.forms.first c.args.forms.count c.loop-i.i c.args.«data».now (omega arith)
+returns-then-surely_takes c =
+    λ e. one_fits c.args.forms.first c.args.forms.count c.loop-i.i c.args.«data».now (omega arith)
     (c.surely_takes.ensures c.if-surely_takes.true)
 
 pub returns : goal.returns

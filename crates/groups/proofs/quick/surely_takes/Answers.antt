@@ -24,7 +24,8 @@ returns-in-3 c = λ e. rw c.in-3.is (bounded_fits (form_of (format_at 3)) _ _ _ 
 
 pub returns-in-4 : goal.returns-in-4
 unfolding numbered under form_of pick takes
-returns-in-4 c = λ e. rw c.in-4.is (bounded_fits (form_of (format_at 4)) _ _ _ tt (c.is_volt_ampere_hours.ensures e))
+returns-in-4 c =
+    λ e. rw c.in-4.is (bounded_fits (form_of (format_at 4)) _ _ _ tt (c.is_volt_ampere_hours.ensures e))
 
 pub returns-in-5 : goal.returns-in-5
 unfolding numbered under form_of pick takes
@@ -48,35 +49,43 @@ returns-in-9 c = λ e. rw c.in-9.is (bounded_fits (form_of (format_at 9)) _ _ _ 
 
 pub returns-in-10 : goal.returns-in-10
 unfolding numbered under form_of pick takes
-returns-in-10 c = λ e. rw c.in-10.is (bounded_fits (form_of (format_at 10)) _ _ _ tt (c.is_consumer.ensures e))
+returns-in-10 c =
+    λ e. rw c.in-10.is (bounded_fits (form_of (format_at 10)) _ _ _ tt (c.is_consumer.ensures e))
 
 pub returns-in-11 : goal.returns-in-11
 unfolding numbered under form_of pick takes
-returns-in-11 c = λ e. rw c.in-11.is (bounded_fits (form_of (format_at 11)) _ _ _ tt (c.is_producer.ensures e))
+returns-in-11 c =
+    λ e. rw c.in-11.is (bounded_fits (form_of (format_at 11)) _ _ _ tt (c.is_producer.ensures e))
 
 pub returns-in-12 : goal.returns-in-12
 unfolding numbered under form_of pick takes
-returns-in-12 c = λ e. rw c.in-12.is (bounded_fits (form_of (format_at 12)) _ _ _ tt (c.is_kilowatts.ensures e))
+returns-in-12 c =
+    λ e. rw c.in-12.is (bounded_fits (form_of (format_at 12)) _ _ _ tt (c.is_kilowatts.ensures e))
 
 pub returns-in-13 : goal.returns-in-13
 unfolding numbered under form_of pick takes
-returns-in-13 c = λ e. rw c.in-13.is (bounded_fits (form_of (format_at 13)) _ _ _ tt (c.is_average_kilowatts.ensures e))
+returns-in-13 c =
+    λ e. rw c.in-13.is (bounded_fits (form_of (format_at 13)) _ _ _ tt (c.is_average_kilowatts.ensures e))
 
 pub returns-in-14 : goal.returns-in-14
 unfolding numbered under form_of pick takes
-returns-in-14 c = λ e. rw c.in-14.is (bounded_fits (form_of (format_at 14)) _ _ _ tt (c.is_kilowatt_hours.ensures e))
+returns-in-14 c =
+    λ e. rw c.in-14.is (bounded_fits (form_of (format_at 14)) _ _ _ tt (c.is_kilowatt_hours.ensures e))
 
 pub returns-in-15 : goal.returns-in-15
 unfolding numbered under form_of pick takes
-returns-in-15 c = λ e. rw c.in-15.is (bounded_fits (form_of (format_at 15)) _ _ _ tt (c.is_kilovar_hours.ensures e))
+returns-in-15 c =
+    λ e. rw c.in-15.is (bounded_fits (form_of (format_at 15)) _ _ _ tt (c.is_kilovar_hours.ensures e))
 
 pub returns-in-16 : goal.returns-in-16
 unfolding numbered under form_of pick takes
-returns-in-16 c = λ e. rw c.in-16.is (bounded_fits (form_of (format_at 16)) _ _ _ tt (c.is_kilowatts-in-16.ensures e))
+returns-in-16 c =
+    λ e. rw c.in-16.is (bounded_fits (form_of (format_at 16)) _ _ _ tt (c.is_kilowatts-in-16.ensures e))
 
 pub returns-in-17 : goal.returns-in-17
 unfolding numbered under form_of pick takes
-returns-in-17 c = λ e. rw c.in-17.is (bounded_fits (form_of (format_at 17)) _ _ _ tt (c.is_kilovolt_amperes.ensures e))
+returns-in-17 c =
+    λ e. rw c.in-17.is (bounded_fits (form_of (format_at 17)) _ _ _ tt (c.is_kilovolt_amperes.ensures e))
 
 pub returns-in-18 : goal.returns-in-18
 unfolding numbered under form_of pick takes
@@ -84,11 +93,13 @@ returns-in-18 c = λ e. rw c.in-18.is (bounded_fits (form_of (format_at 18)) _ _
 
 pub returns-in-19 : goal.returns-in-19
 unfolding numbered under form_of pick takes
-returns-in-19 c = λ e. rw c.in-19.is (bounded_fits (form_of (format_at 19)) _ _ _ tt (c.is_spaced_overrun.ensures e))
+returns-in-19 c =
+    λ e. rw c.in-19.is (bounded_fits (form_of (format_at 19)) _ _ _ tt (c.is_spaced_overrun.ensures e))
 
 pub returns-in-20 : goal.returns-in-20
 unfolding numbered under form_of pick takes
-returns-in-20 c = λ e. rw c.in-20.is (bounded_fits (form_of (format_at 20)) _ _ _ tt (c.is_kilowatts-in-20.ensures e))
+returns-in-20 c =
+    λ e. rw c.in-20.is (bounded_fits (form_of (format_at 20)) _ _ _ tt (c.is_kilowatts-in-20.ensures e))
 
 pub returns-in-21 : goal.returns-in-21
 returns-in-21 c = λ e. rw c.in-21.is (c.is_tangent.ensures e)
@@ -107,19 +118,23 @@ returns-in-25 c = λ e. rw c.in-25.is (c.is_negative_of_8.ensures e)
 
 pub returns-in-26 : goal.returns-in-26
 unfolding numbered under form_of pick takes
-returns-in-26 c = λ e. rw c.in-26.is (bounded_fits (form_of (format_at 26)) _ _ _ tt (c.is_name_of_12.ensures e))
+returns-in-26 c =
+    λ e. rw c.in-26.is (bounded_fits (form_of (format_at 26)) _ _ _ tt (c.is_name_of_12.ensures e))
 
 pub returns-in-27 : goal.returns-in-27
 unfolding numbered under form_of pick takes
-returns-in-27 c = λ e. rw c.in-27.is (bounded_fits (form_of (format_at 27)) _ _ _ tt (c.is_name_of_10.ensures e))
+returns-in-27 c =
+    λ e. rw c.in-27.is (bounded_fits (form_of (format_at 27)) _ _ _ tt (c.is_name_of_10.ensures e))
 
 pub returns-in-28 : goal.returns-in-28
 unfolding numbered under form_of pick takes
-returns-in-28 c = λ e. rw c.in-28.is (bounded_fits (form_of (format_at 28)) _ _ _ tt (c.is_name_up_to_3.ensures e))
+returns-in-28 c =
+    λ e. rw c.in-28.is (bounded_fits (form_of (format_at 28)) _ _ _ tt (c.is_name_up_to_3.ensures e))
 
 pub returns-in-29 : goal.returns-in-29
 unfolding numbered under form_of pick takes
-returns-in-29 c = λ e. rw c.in-29.is (bounded_fits (form_of (format_at 29)) _ _ _ tt (c.is_name_of_3.ensures e))
+returns-in-29 c =
+    λ e. rw c.in-29.is (bounded_fits (form_of (format_at 29)) _ _ _ tt (c.is_name_of_3.ensures e))
 
 pub returns-in_default : goal.returns-in_default
 returns-in_default c = λ e. absurd (from_true e)

@@ -13,11 +13,13 @@ use native.Mathlib.Omega.{arith}
 use Rattle.groups.proofs.reading.behind_label.Goals as goal
 
 pub returns-then-n-lt2 : goal.returns-then-n-lt2
-returns-then-n-lt2 c = c.refuse.ensures ∙ told_nowhere _ _ _ Misshapen tt tt (behind_short c.args.mode c.args.label.now c.args.rest.now
+returns-then-n-lt2 c =
+    c.refuse.ensures ∙ told_nowhere _ _ _ Misshapen tt tt (behind_short c.args.mode c.args.label.now c.args.rest.now
     c.if-n-lt2.true)
 
 pub returns-then-rest-end : goal.returns-then-rest-end
-returns-then-rest-end c = c.refuse-then-rest-end.ensures ∙ told_nowhere _ _ _ Misshapen tt tt (behind_open c.args.mode c.args.label.now c.args.rest.now c.if-n-lt2.false (λ
+returns-then-rest-end c =
+    c.refuse-then-rest-end.ensures ∙ told_nowhere _ _ _ Misshapen tt tt (behind_open c.args.mode c.args.label.now c.args.rest.now c.if-n-lt2.false (λ
     z. c.if-rest-end.true (z ∙ sym c.separator_of.ensures)))
 
 pub slice_bounds-body-end : goal.slice_bounds-body-end
@@ -27,7 +29,8 @@ pub check_by-requires : goal.check_by-requires
 check_by-requires c = omega (arith, c.requires.0.small)
 
 pub returns-then-rest-n : goal.returns-then-rest-n
-returns-then-rest-n c = c.refuse-then-rest-n.ensures ∙ told_nowhere _ _ _ CheckWrong tt tt (behind_checked c.args.mode c.args.label.now c.args.rest.now c.if-n-lt2.false
+returns-then-rest-n c =
+    c.refuse-then-rest-n.ensures ∙ told_nowhere _ _ _ CheckWrong tt tt (behind_checked c.args.mode c.args.label.now c.args.rest.now c.if-n-lt2.false
     (c.if-rest-end.false ∙ c.separator_of.ensures) (λ z. c.if-rest-n.true (z ∙ sym
     (c.check_by.ensures ∙ check_front c.args.mode c.args.label.now c.args.rest.now c.args.front c.requires.0 c.if-n-lt2.false))))
 
@@ -38,12 +41,14 @@ pub fields_of-requires : goal.fields_of-requires
 fields_of-requires c = c.requires.2
 
 pub returns-in-Listed : goal.returns-in-Listed
-returns-in-Listed c = let listed = found_some _ (c.find-found.ensures ∙ ap (λ (l : List ℕ). lookup l (rows c.args.mode)) c.requires.1.begins) c.in-Listed.is in
+returns-in-Listed c =
+    let listed = found_some _ (c.find-found.ensures ∙ ap (λ (l : List ℕ). lookup l (rows c.args.mode)) c.requires.1.begins) c.in-Listed.is in
     c.fields_of.ensures ∙ told_listed c.args.mode _ c.args.label.now c.args.rest.now (behind_listed c.args.mode c.args.label.now c.args.rest.now _
     c.if-n-lt2.false (c.if-rest-end.false ∙ c.separator_of.ensures) (c.if-rest-n.false ∙
     c.check_by.ensures ∙ check_front c.args.mode c.args.label.now c.args.rest.now c.args.front c.requires.0 c.if-n-lt2.false) listed) listed
 
 pub returns-in-Unlisted : goal.returns-in-Unlisted
-returns-in-Unlisted c = c.refuse-in-Unlisted.ensures ∙ told_nowhere _ _ _ LabelUnknown tt tt (behind_unlisted c.args.mode c.args.label.now c.args.rest.now c.if-n-lt2.false
+returns-in-Unlisted c =
+    c.refuse-in-Unlisted.ensures ∙ told_nowhere _ _ _ LabelUnknown tt tt (behind_unlisted c.args.mode c.args.label.now c.args.rest.now c.if-n-lt2.false
     (c.if-rest-end.false ∙ c.separator_of.ensures) (c.if-rest-n.false ∙ c.check_by.ensures ∙ check_front c.args.mode c.args.label.now c.args.rest.now c.args.front c.requires.0 c.if-n-lt2.false)
     (found_none (c.find-found.ensures ∙ ap (λ (l : List ℕ). lookup l (rows c.args.mode)) c.requires.1.begins) c.in-Unlisted.is))

@@ -14,25 +14,28 @@ returns-then-body-lt14 c = λ label. fields_short c.args.mode (rule_of c.args.ru
     (ap is_stamped (sym c.mark_of-mark.ensures) ∙ sym c.is_stamped.ensures ∙ c.if-is_stamped.true) c.if-body-lt14.true
 
 pub returns-then-body-separator_of : goal.returns-then-body-separator_of
-returns-then-body-separator_of c = λ label. fields_unparted c.args.mode (rule_of c.args.rule) label c.args.body.now
+returns-then-body-separator_of c =
+    λ label. fields_unparted c.args.mode (rule_of c.args.rule) label c.args.body.now
     (ap is_stamped (sym c.mark_of-mark.ensures) ∙ sym c.is_stamped.ensures ∙ c.if-is_stamped.true) c.if-body-lt14.false
     (λ z. c.if-body-separator_of.true (z ∙ sym c.separator_of.ensures))
 
 pub returns-then-is_stamped : goal.returns-then-is_stamped
 unfolding stamp_span pick
-returns-then-is_stamped c = let stamped = ap is_stamped (sym c.mark_of-mark.ensures) ∙ sym c.is_stamped.ensures ∙ c.if-is_stamped.true in (
-  omega arith,
-  omega arith,
-  ap (λ (k : Bool). pick k 14 0) (sym stamped),
-  λ label. fields_stamped c.args.mode (rule_of c.args.rule) label c.args.body.now stamped c.if-body-lt14.false
-      (c.if-body-separator_of.false ∙ c.separator_of.ensures),
-)
+returns-then-is_stamped c =
+    let stamped = ap is_stamped (sym c.mark_of-mark.ensures) ∙ sym c.is_stamped.ensures ∙ c.if-is_stamped.true in (
+      omega arith,
+      omega arith,
+      ap (λ (k : Bool). pick k 14 0) (sym stamped),
+      λ label. fields_stamped c.args.mode (rule_of c.args.rule) label c.args.body.now stamped c.if-body-lt14.false
+          (c.if-body-separator_of.false ∙ c.separator_of.ensures),
+    )
 
 pub returns : goal.returns
 unfolding stamp_span pick
-returns c = let unstamped = ap is_stamped (sym c.mark_of-mark.ensures) ∙ sym c.is_stamped.ensures ∙ c.if-is_stamped.false in (
-  omega arith,
-  omega arith,
-  ap (λ (k : Bool). pick k 14 0) (sym unstamped),
-  λ label. fields_plain c.args.mode (rule_of c.args.rule) label c.args.body.now unstamped,
-)
+returns c =
+    let unstamped = ap is_stamped (sym c.mark_of-mark.ensures) ∙ sym c.is_stamped.ensures ∙ c.if-is_stamped.false in (
+      omega arith,
+      omega arith,
+      ap (λ (k : Bool). pick k 14 0) (sym unstamped),
+      λ label. fields_plain c.args.mode (rule_of c.args.rule) label c.args.body.now unstamped,
+    )

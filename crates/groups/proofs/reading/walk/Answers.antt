@@ -8,7 +8,8 @@ use native.Mathlib.Omega.{arith}
 use Rattle.groups.proofs.reading.walk.Goals as goal
 
 pub returns : goal.returns
-returns c = let end = length c.args.content.now - 2 in
+returns c =
+    let end = length c.args.content.now - 2 in
     let both : c.walk_label-label.result.sum + c.sum-behind.result ≡ total (take end c.args.content.now) =
     omega (
       arith,

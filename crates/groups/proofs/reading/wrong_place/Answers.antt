@@ -9,7 +9,8 @@ use native.Mathlib.Omega.{arith}
 use Rattle.groups.proofs.reading.wrong_place.Goals as goal
 
 pub returns-then-number-eq12 : goal.returns-then-number-eq12
-returns-then-number-eq12 c = sym (place_twelve _ _ _ (sym c.refusal_number-number.ensures ∙ c.if-number-eq12.true))
+returns-then-number-eq12 c =
+    sym (place_twelve _ _ _ (sym c.refusal_number-number.ensures ∙ c.if-number-eq12.true))
 
 pub returns-then-number-eq14 : goal.returns-then-number-eq14
 returns-then-number-eq14 c = omega (
@@ -21,4 +22,5 @@ returns-then-number-eq14 c = omega (
 )
 
 pub returns : goal.returns
-returns c = sym (no_place _ _ _ (rw (ne_eqb _ 12 (λ z. c.if-number-eq12.false (c.refusal_number-number.ensures ∙ z))) tt) (rw (ne_eqb _ 14 (λ z. c.if-number-eq14.false (c.refusal_number-number.ensures ∙ z))) tt))
+returns c =
+    sym (no_place _ _ _ (rw (ne_eqb _ 12 (λ z. c.if-number-eq12.false (c.refusal_number-number.ensures ∙ z))) tt) (rw (ne_eqb _ 14 (λ z. c.if-number-eq14.false (c.refusal_number-number.ensures ∙ z))) tt))

@@ -25,30 +25,37 @@ module _ (s : List ℕ) (n : length s ≡ 13) {wrong : ℕ} (e : wrong ≡ wrong
 
 pub returns-then-wrong_at-ne12 : goal.returns-then-wrong_at-ne12
 unfolding date_right
-returns-then-wrong_at-ne12 c = rw (tested c.args.stamp.now c.requires c.wrong_at.ensures ∙ ne_eqb _ _ c.if-wrong_at-ne12.true)
+returns-then-wrong_at-ne12 c =
+    rw (tested c.args.stamp.now c.requires c.wrong_at.ensures ∙ ne_eqb _ _ c.if-wrong_at-ne12.true)
 
 pub two_digits-month-requires : goal.two_digits-month-requires
-two_digits-month-requires c = let digits = all_digits c.args.stamp.now c.requires c.wrong_at.ensures c.if-wrong_at-ne12.false in
+two_digits-month-requires c =
+    let digits = all_digits c.args.stamp.now c.requires c.wrong_at.ensures c.if-wrong_at-ne12.false in
     two_digits_at c.args.stamp.now c.requires digits 3 (omega arith) (omega arith)
 
 pub two_digits-requires : goal.two_digits-requires
-two_digits-requires c = let digits = all_digits c.args.stamp.now c.requires c.wrong_at.ensures c.if-wrong_at-ne12.false in
+two_digits-requires c =
+    let digits = all_digits c.args.stamp.now c.requires c.wrong_at.ensures c.if-wrong_at-ne12.false in
     two_digits_at c.args.stamp.now c.requires digits 1 (omega arith) (omega arith)
 
 pub two_digits-requires-2 : goal.two_digits-requires-2
-two_digits-requires-2 c = let digits = all_digits c.args.stamp.now c.requires c.wrong_at.ensures c.if-wrong_at-ne12.false in
+two_digits-requires-2 c =
+    let digits = all_digits c.args.stamp.now c.requires c.wrong_at.ensures c.if-wrong_at-ne12.false in
     two_digits_at c.args.stamp.now c.requires digits 5 (omega arith) (omega arith)
 
 pub two_digits-requires-3 : goal.two_digits-requires-3
-two_digits-requires-3 c = let digits = all_digits c.args.stamp.now c.requires c.wrong_at.ensures c.if-wrong_at-ne12.false in
+two_digits-requires-3 c =
+    let digits = all_digits c.args.stamp.now c.requires c.wrong_at.ensures c.if-wrong_at-ne12.false in
     two_digits_at c.args.stamp.now c.requires digits 7 (omega arith) (omega arith)
 
 pub two_digits-requires-4 : goal.two_digits-requires-4
-two_digits-requires-4 c = let digits = all_digits c.args.stamp.now c.requires c.wrong_at.ensures c.if-wrong_at-ne12.false in
+two_digits-requires-4 c =
+    let digits = all_digits c.args.stamp.now c.requires c.wrong_at.ensures c.if-wrong_at-ne12.false in
     two_digits_at c.args.stamp.now c.requires digits 9 (omega arith) (omega arith)
 
 pub two_digits-requires-5 : goal.two_digits-requires-5
-two_digits-requires-5 c = let digits = all_digits c.args.stamp.now c.requires c.wrong_at.ensures c.if-wrong_at-ne12.false in
+two_digits-requires-5 c =
+    let digits = all_digits c.args.stamp.now c.requires c.wrong_at.ensures c.if-wrong_at-ne12.false in
     two_digits_at c.args.stamp.now c.requires digits 11 (omega arith) (omega arith)
 
 pub returns : goal.returns

@@ -6,7 +6,8 @@ use Rattle.groups.proofs.stamps.stamp_right.Goals as goal
 
 pub returns-then-stamp-ne13 : goal.returns-then-stamp-ne13
 unfolding stamp_as
-returns-then-stamp-ne13 c = rw (sym c.is_stamped.ensures ∙ c.if-is_stamped.true, ne_eqb _ _ c.if-stamp-ne13.true)
+returns-then-stamp-ne13 c =
+    rw (sym c.is_stamped.ensures ∙ c.if-is_stamped.true, ne_eqb _ _ c.if-stamp-ne13.true)
 
 pub returns-then-is_stamped : goal.returns-then-is_stamped
 unfolding stamp_as

@@ -37,12 +37,14 @@ put_all-requires c = omega (
 )
 
 pub returns-then-is_stamped : goal.returns-then-is_stamped
-returns-then-is_stamped c = laid_as (laid_then c.put_all-behind_stamp.ensures (laid_then c.put-behind_separator.ensures
+returns-then-is_stamped c =
+    laid_as (laid_then c.put_all-behind_stamp.ensures (laid_then c.put-behind_separator.ensures
     c.put_all.ensures)) (body_pieces c.args.mode c.args.stamp.now c.args.«data».now _ _ (sym
     c.is_stamped.ensures ∙ c.if-is_stamped.true) c.separator_of.ensures)
 
 pub put_all-requires-2 : goal.put_all-requires-2
-put_all-requires-2 c = let e = body_plain c.args.mode c.args.stamp.now c.args.«data».now _ (sym c.is_stamped.ensures ∙
+put_all-requires-2 c =
+    let e = body_plain c.args.mode c.args.stamp.now c.args.«data».now _ (sym c.is_stamped.ensures ∙
     c.if-is_stamped.false) in
     omega (arith, c.requires, ap length e)
 

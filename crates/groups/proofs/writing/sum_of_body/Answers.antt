@@ -9,7 +9,8 @@ pub overflow_add-result : goal.overflow_add-result
 overflow_add-result c = omega (arith, c.sum.ensures.1, separator_small c.args.mode)
 
 pub overflow_add-result-then-is_stamped : goal.overflow_add-result-then-is_stamped
-overflow_add-result-then-is_stamped c = omega (arith, c.sum.ensures.1, c.sum-then-is_stamped.ensures.1, separator_small c.args.mode)
+overflow_add-result-then-is_stamped c =
+    omega (arith, c.sum.ensures.1, c.sum-then-is_stamped.ensures.1, separator_small c.args.mode)
 
 pub returns-then-is_stamped : goal.returns-then-is_stamped
 returns-then-is_stamped c = (

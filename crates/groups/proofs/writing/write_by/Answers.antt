@@ -15,7 +15,8 @@ write_right-requires c = (
 )
 
 pub returns-in-Refused : goal.returns-in-Refused
-returns-in-Refused c = wrote_as c.args.buffer.now _ _ (write_wrong c.args.mode (group_of c.args.label.now c.args.stamp.now c.args.«data».now)
+returns-in-Refused c =
+    wrote_as c.args.buffer.now _ _ (write_wrong c.args.mode (group_of c.args.label.now c.args.stamp.now c.args.«data».now)
     (length c.args.buffer.now) (rule_of c.args.rule) _ (λ a. fit_wrong (rule_of c.args.rule) c.args.stamp.now c.args.«data».now _ a _ (sym
     c.fit-fitness.ensures ∙ c.in-Refused.is))) c.stop.ensures
 

@@ -12,14 +12,17 @@ use Rattle.groups.specs.Table.{lookup, rows}
 use Rattle.groups.proofs.writing.write_in.Goals as goal
 
 pub write_by-requires : goal.write_by-requires
-write_by-requires c = listed_short c.args.mode c.args.label.now _ (found_some _ (c.find-found.ensures ∙ ap (λ (l : List ℕ). lookup l (rows c.args.mode)) (take_all (length c.args.label.now) c.args.label.now (omega arith))) c.in-Listed.is)
+write_by-requires c =
+    listed_short c.args.mode c.args.label.now _ (found_some _ (c.find-found.ensures ∙ ap (λ (l : List ℕ). lookup l (rows c.args.mode)) (take_all (length c.args.label.now) c.args.label.now (omega arith))) c.in-Listed.is)
 
 pub returns-in-Listed : goal.returns-in-Listed
-returns-in-Listed c = wrote_as c.args.buffer.now _ _ (write_listed c.args.mode (group_of c.args.label.now c.args.stamp.now c.args.«data».now)
+returns-in-Listed c =
+    wrote_as c.args.buffer.now _ _ (write_listed c.args.mode (group_of c.args.label.now c.args.stamp.now c.args.«data».now)
     (length c.args.buffer.now) _ (found_some _ (c.find-found.ensures ∙ ap (λ (l : List ℕ). lookup l (rows c.args.mode)) (take_all (length c.args.label.now) c.args.label.now (omega arith))) c.in-Listed.is))
     c.write_by.ensures
 
 pub returns-in-Unlisted : goal.returns-in-Unlisted
-returns-in-Unlisted c = wrote_as c.args.buffer.now _ _ (write_unlisted c.args.mode (group_of c.args.label.now c.args.stamp.now c.args.«data».now)
+returns-in-Unlisted c =
+    wrote_as c.args.buffer.now _ _ (write_unlisted c.args.mode (group_of c.args.label.now c.args.stamp.now c.args.«data».now)
     (length c.args.buffer.now) (found_none (c.find-found.ensures ∙ ap (λ (l : List ℕ). lookup l (rows c.args.mode)) (take_all (length c.args.label.now) c.args.label.now (omega arith))) c.in-Unlisted.is))
     c.stop.ensures

@@ -7,27 +7,32 @@ use native.Mathlib.Omega.{arith}
 use Rattle.groups.proofs.writing.write_right.Goals as goal
 
 pub overflow_add-size : goal.overflow_add-size
-overflow_add-size c = let s = all_short c.args.mode (rule_of c.args.rule) c.args.label.now c.args.stamp.now c.args.«data».now c.requires.0
+overflow_add-size c =
+    let s = all_short c.args.mode (rule_of c.args.rule) c.args.label.now c.args.stamp.now c.args.«data».now c.requires.0
     c.requires.1 in
     omega (arith, s.short_label, s.short_data)
 
 pub overflow_add-size-2 : goal.overflow_add-size-2
-overflow_add-size-2 c = let s = all_short c.args.mode (rule_of c.args.rule) c.args.label.now c.args.stamp.now c.args.«data».now c.requires.0
+overflow_add-size-2 c =
+    let s = all_short c.args.mode (rule_of c.args.rule) c.args.label.now c.args.stamp.now c.args.«data».now c.requires.0
     c.requires.1 in
     omega (arith, s.short_label, s.short_data, c.stamp_span-span.ensures.1)
 
 pub overflow_add-size-3 : goal.overflow_add-size-3
-overflow_add-size-3 c = let s = all_short c.args.mode (rule_of c.args.rule) c.args.label.now c.args.stamp.now c.args.«data».now c.requires.0
+overflow_add-size-3 c =
+    let s = all_short c.args.mode (rule_of c.args.rule) c.args.label.now c.args.stamp.now c.args.«data».now c.requires.0
     c.requires.1 in
     omega (arith, s.short_label, s.short_data, c.stamp_span-span.ensures.1)
 
 pub overflow_add-size-4 : goal.overflow_add-size-4
-overflow_add-size-4 c = let s = all_short c.args.mode (rule_of c.args.rule) c.args.label.now c.args.stamp.now c.args.«data».now c.requires.0
+overflow_add-size-4 c =
+    let s = all_short c.args.mode (rule_of c.args.rule) c.args.label.now c.args.stamp.now c.args.«data».now c.requires.0
     c.requires.1 in
     omega (arith, s.short_label, s.short_data, c.stamp_span-span.ensures.1)
 
 pub returns-then-buffer-size : goal.returns-then-buffer-size
-returns-then-buffer-size c = wrote_as c.args.buffer.now _ _ (write_tight c.args.mode (group_of c.args.label.now c.args.stamp.now c.args.«data».now)
+returns-then-buffer-size c =
+    wrote_as c.args.buffer.now _ _ (write_tight c.args.mode (group_of c.args.label.now c.args.stamp.now c.args.«data».now)
     (length c.args.buffer.now) (rule_of c.args.rule) c.requires.1 (omega (
       arith,
       wire_size c.args.mode (rule_of c.args.rule) c.args.label.now
@@ -37,7 +42,8 @@ returns-then-buffer-size c = wrote_as c.args.buffer.now _ _ (write_tight c.args.
     ))) c.stop.ensures
 
 pub put_group-count-requires : goal.put_group-count-requires
-put_group-count-requires c = let s = all_short c.args.mode (rule_of c.args.rule) c.args.label.now c.args.stamp.now c.args.«data».now c.requires.0
+put_group-count-requires c =
+    let s = all_short c.args.mode (rule_of c.args.rule) c.args.label.now c.args.stamp.now c.args.«data».now c.requires.0
     c.requires.1 in
     rw c.mark_of-mark.ensures (
       s.short_label,
@@ -53,7 +59,8 @@ put_group-count-requires c = let s = all_short c.args.mode (rule_of c.args.rule)
     )
 
 pub returns : goal.returns
-returns c = wrote_laid c.args.buffer.now _ _ (write_done c.args.mode (group_of c.args.label.now c.args.stamp.now c.args.«data».now)
+returns c =
+    wrote_laid c.args.buffer.now _ _ (write_done c.args.mode (group_of c.args.label.now c.args.stamp.now c.args.«data».now)
     (length c.args.buffer.now) (rule_of c.args.rule) c.requires.1 (omega (
       arith,
       wire_size c.args.mode (rule_of c.args.rule) c.args.label.now

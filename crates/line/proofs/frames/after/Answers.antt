@@ -7,7 +7,8 @@ use Rattle.line.proofs.InRows.{is_stx, not_stx}
 use Rattle.line.proofs.frames.after.Goals as goal
 
 pub returns-then-byte-wire_byte : goal.returns-then-byte-wire_byte
-returns-then-byte-wire_byte c = omega (arith, c.next.ensures, ap (frame_at c.args.frame) (is_stx c.wire_byte.ensures c.if-byte-wire_byte.true))
+returns-then-byte-wire_byte c =
+    omega (arith, c.next.ensures, ap (frame_at c.args.frame) (is_stx c.wire_byte.ensures c.if-byte-wire_byte.true))
 
 pub returns : goal.returns
 returns c = omega (

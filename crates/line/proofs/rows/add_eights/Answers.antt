@@ -10,7 +10,8 @@ pub add_eight-requires : goal.add_eight-requires
 add_eight-requires c = (omega arith, omega arith, c.are_plain.ensures c.if-are_plain.true)
 
 pub loop-i-preserved : goal.loop-i-preserved
-loop-i-preserved c = (omega arith, λ content first. c.add_eight.ensures content (c.loop-i.invariant.1 content first))
+loop-i-preserved c =
+    (omega arith, λ content first. c.add_eight.ensures content (c.loop-i.invariant.1 content first))
 
 pub returns-else-are_plain : goal.returns-else-are_plain
 returns-else-are_plain c = c.loop-i.invariant

@@ -10,7 +10,8 @@ pub loop-i-init : goal.loop-i-init
 loop-i-init c = passes_none Outside c.args.bytes.now
 
 pub loop-i-preserved : goal.loop-i-preserved
-loop-i-preserved c = let b = get_or c.args.bytes.now c.loop-i.i 0 in
+loop-i-preserved c =
+    let b = get_or c.args.bytes.now c.loop-i.i 0 in
     let other = not_stx b _ (omega (arith, c.type_inv.bytes c.loop-i.i)) c.wire_byte.ensures c.if-bytes-i.false in
     passes_quiet Outside Outside c.args.bytes.now c.loop-i.i c.loop-i.invariant c.loop-i-test.true Outside
     (λ frame. at_other frame b other) (passes_other b other)

@@ -4,11 +4,13 @@ use Rattle.line.proofs.InRows.{runs_group, runs_passed}
 use Rattle.line.proofs.rows.take_quiet.Goals as goal
 
 pub returns-in-Outside : goal.returns-in-Outside
-returns-in-Outside c = runs_passed c.args.line (sym c.in-Outside.is ∙ c.phase_of-phase.ensures) (λ mode frame h. refl) c.pass_outside.ensures
+returns-in-Outside c =
+    runs_passed c.args.line (sym c.in-Outside.is ∙ c.phase_of-phase.ensures) (λ mode frame h. refl) c.pass_outside.ensures
     c.without_content.ensures
 
 pub returns-in-Frame : goal.returns-in-Frame
-returns-in-Frame c = runs_passed c.args.line (sym c.in-Frame.is ∙ c.phase_of-phase.ensures) (λ mode frame h. refl) c.pass_frame.ensures
+returns-in-Frame c =
+    runs_passed c.args.line (sym c.in-Frame.is ∙ c.phase_of-phase.ensures) (λ mode frame h. refl) c.pass_frame.ensures
     c.without_content-in-Frame.ensures
 
 pub returns-in-Group : goal.returns-in-Group

@@ -20,15 +20,18 @@ returns-then-overlong c = rw (c.if-damaged.false, c.if-overlong.true)
 
 -- a place fits a byte
 pub overflow_cast-result : goal.overflow_cast-result
-overflow_cast-result c = let told = ap (λ (j : Judgement). j.place) c.judge-judgement.ensures in
+overflow_cast-result c =
+    let told = ap (λ (j : Judgement). j.place) c.judge-judgement.ensures in
     omega (arith, told, placed_small c.args.mode c.front.result.now)
 
 pub returns-in-Accepted : goal.returns-in-Accepted
-returns-in-Accepted c = ap (λ (v : Verdict). heard_as v (fields_shown c.judge-judgement.result.judged) c.judge-judgement.result.place) (sym c.in-Accepted.is)
+returns-in-Accepted c =
+    ap (λ (v : Verdict). heard_as v (fields_shown c.judge-judgement.result.judged) c.judge-judgement.result.place) (sym c.in-Accepted.is)
     ∙ heard_judged c.args.mode c.args.damaged c.args.overlong c.args.content.now c.args.length c.if-damaged.false c.if-overlong.false c.judge-judgement.result
     (c.judge-judgement.ensures ∙ ap (judgement c.args.mode) c.front.ensures)
 
 pub returns-in-Refused : goal.returns-in-Refused
-returns-in-Refused c = ap (λ (v : Verdict). heard_as v (fields_shown c.judge-judgement.result.judged) c.judge-judgement.result.place) (sym c.in-Refused.is)
+returns-in-Refused c =
+    ap (λ (v : Verdict). heard_as v (fields_shown c.judge-judgement.result.judged) c.judge-judgement.result.place) (sym c.in-Refused.is)
     ∙ heard_judged c.args.mode c.args.damaged c.args.overlong c.args.content.now c.args.length c.if-damaged.false c.if-overlong.false c.judge-judgement.result
     (c.judge-judgement.ensures ∙ ap (judgement c.args.mode) c.front.ensures)

@@ -22,5 +22,6 @@ loop-i-preserved c = (
 )
 
 pub returns : goal.returns
-returns c = copy_done c.args.target.now c.loop-i.target c.args.bytes.now c.args.at c.loop-i.i c.loop-i.invariant.1
+returns c =
+    copy_done c.args.target.now c.loop-i.target c.args.bytes.now c.args.at c.loop-i.i c.loop-i.invariant.1
     c.loop-i.invariant.0 c.loop-i-test.false

@@ -10,7 +10,8 @@ use Rattle.station.proofs.serve.serve.Goals as goal
 
 pub loop-i-init : goal.loop-i-init
 unfolding served_all
-loop-i-init c = (search rules, search rules, refl, refl, c.sized.ensures.marks.many, c.sized.ensures.places.many, c.sized.ensures.contents.many, zeros_at_first 8, zeros_at_first 16)
+loop-i-init c =
+    (search rules, search rules, refl, refl, c.sized.ensures.marks.many, c.sized.ensures.places.many, c.sized.ensures.contents.many, zeros_at_first 8, zeros_at_first 16)
 
 pub loop-i-preserved-then-marks-i-eq0 : goal.loop-i-preserved-then-marks-i-eq0
 loop-i-preserved-then-marks-i-eq0 c = (
@@ -49,5 +50,6 @@ loop-i-preserved c = (
 )
 
 pub returns : goal.returns
-returns c = serves_all _ c.args.sheet.now _ (lines_eight _ c.sized.ensures) (lines_long _ c.sized.ensures) c.requires
+returns c =
+    serves_all _ c.args.sheet.now _ (lines_eight _ c.sized.ensures) (lines_long _ c.sized.ensures) c.requires
     (serve_end _ _ c.loop-i.i c.loop-i-test.false c.loop-i.invariant.3)

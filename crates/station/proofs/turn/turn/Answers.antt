@@ -10,7 +10,8 @@ use native.Mathlib.Omega.{arith}
 use Rattle.station.proofs.turn.turn.Goals as goal
 
 pub returns-then-opened-eq0 : goal.returns-then-opened-eq0
-returns-then-opened-eq0 c = turn_closed (rows_behind c.args.marks.now c.args.places.now c.args.content.now c.args.inbox.now) c.if-opened-eq0.true
+returns-then-opened-eq0 c =
+    turn_closed (rows_behind c.args.marks.now c.args.places.now c.args.content.now c.args.inbox.now) c.if-opened-eq0.true
 
 pub end_of-end-requires : goal.end_of-end-requires
 end_of-end-requires c =
