@@ -7,6 +7,7 @@
 // The capture is read in pieces. From one piece to the next goes only what a line keeps, so a capture of any length is
 // listed in the same small room, and a line that is still being captured is listed as it comes.
 #![tactic(auto)]
+
 mod text;
 
 ghost use Rattle.std.specs.Prelude.{◌≡◌, ◌≤◌, length};
@@ -50,12 +51,12 @@ fn list_next(line: LineState, content: &mut [u8; 128], bytes: &[u8], text: &mut 
 }
 
 // Writes a text, and tells whether all of it went out.
-fn print(text: &[u8]) -> bool {
-    streams::print(b"listing", text)
+fn print(rt: &HostRuntime, text: &[u8]) -> bool {
+    streams::print(rt, b"listing", text)
 }
 
 // Lists a piece of the capture. Each line is written as soon as it is known, and whole.
-fn list_piece(line: LineState, content: &mut [u8; 128], bytes: &[u8]) -> Progress
+fn list_piece(rt: &HostRuntime, line: LineState, content: &mut [u8; 128], bytes: &[u8]) -> Progress
     requires { length content.old ≡ 128 }
     ensures { Goes line content.old bytes.now result content.new }
 {
@@ -65,7 +66,7 @@ fn list_piece(line: LineState, content: &mut [u8; 128], bytes: &[u8]) -> Progres
     while i < bytes.len() {
         let listed = list_next(at, content, &bytes[i..], &mut text);
         let length = listed.length;
-        if !print(&text[..length]) {
+        if !print(rt, &text[..length]) {
             return Progress::Over;
         }
         at = listed.line;
@@ -75,27 +76,27 @@ fn list_piece(line: LineState, content: &mut [u8; 128], bytes: &[u8]) -> Progres
 }
 
 // Reads a piece of the capture and lists it. An input that ends, or can't be read any more, is over.
-fn list_some(line: LineState, content: &mut [u8; 128]) -> Progress
+fn list_some(rt: &HostRuntime, line: LineState, content: &mut [u8; 128]) -> Progress
     requires { length content.old ≡ 128 }
     ensures { length content.new ≡ 128 }
 {
     let mut piece = io::buffer();
-    let got = streams::read(b"listing", &mut piece);
+    let got = streams::read(rt, b"listing", &mut piece);
     let n = io::count(got, &piece);
     if n == 0 {
         return Progress::Over;
     }
-    list_piece(line, content, &piece[..n])
+    list_piece(rt, line, content, &piece[..n])
 }
 
 // Lists all that comes, for a line that was just opened. A proved loop has to end, and nothing says that an input does:
 // the loop counts down from a number that no run uses up.
-fn list_all(line: LineState) {
+fn list_all(rt: &HostRuntime, line: LineState) {
     let mut content = [0; 128];
     let mut at = line;
     let mut turns = u64::MAX;
     while turns > 0 {
-        let progress = list_some(at, &mut content);
+        let progress = list_some(rt, at, &mut content);
         let Progress::Going(next) = progress else {
             return;
         };
@@ -125,17 +126,17 @@ fn begin(count: isize, letter: u8) -> Opening {
 }
 
 // An input that can't be read is no capture, not even an empty one: nothing is listed of it.
-fn main() {
+fn main(rt: HostRuntime) {
     let mut first = [0; 1];
-    let got = streams::read(b"listing", &mut first);
+    let got = streams::read(&rt, b"listing", &mut first);
     if got < 0 {
         return;
     }
     let opening = begin(got, first[0]);
     match opening {
-        Opening::Opened(line) => list_all(line),
+        Opening::Opened(line) => list_all(&rt, line),
         Opening::ModeUnknown => {
-            print(b"20\n");
+            print(&rt, b"20\n");
         }
     }
 }

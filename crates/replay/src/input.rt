@@ -10,7 +10,7 @@ pub type Piece = [u8; 4096];
 // before the piece. `ended` says that a byte was asked for and there was none, or that a length was over 4,096, which
 // `overlong` tells apart. It stays set, and every byte from then on is 0: so a record is taken to its end, and one test
 // there says whether it was one. `record` is the number of the record, from 1, and `start` where it starts in the input.
-#[derive(Drop)]
+#[derive(Clone, Copy)]
 pub struct Reader {
     pub next: usize,
     pub end: usize,
@@ -74,8 +74,8 @@ pub(crate) fn at_record(reader: Reader) -> Reader {
         next: reader.next,
         end: reader.end,
         before: reader.before,
-        record: std::num::wrapping_add_usize(reader.record, 1),
-        start: std::num::wrapping_add_usize(reader.before, reader.next),
+        record: reader.record.wrapping_add(1),
+        start: reader.before.wrapping_add(reader.next),
         ended: reader.ended,
         overlong: reader.overlong,
     }
@@ -87,8 +87,8 @@ pub(crate) fn is_used_up(reader: Reader) -> bool {
 }
 
 // Reads once, and tells how many bytes came. An input that can't be read counts as one that has ended.
-fn refill(piece: &mut [u8]) -> usize {
-    let got = streams::read(b"replay", piece);
+fn refill(rt: &HostRuntime, piece: &mut [u8]) -> usize {
+    let got = streams::read(rt, b"replay", piece);
     io::count(got, piece)
 }
 
@@ -116,24 +116,24 @@ fn taken_at(reader: Reader, next: usize, end: usize, before: usize, piece: &Piec
     }
 }
 
-pub(crate) fn take(reader: Reader, piece: &mut Piece) -> Taken {
+pub(crate) fn take(rt: &HostRuntime, reader: Reader, piece: &mut Piece) -> Taken {
     if reader.next < reader.end {
         return taken_at(reader, reader.next, reader.end, reader.before, piece);
     }
     if reader.ended {
         return Taken { byte: 0, reader };
     }
-    let before = std::num::wrapping_add_usize(reader.before, reader.end);
-    let end = refill(piece);
+    let before = reader.before.wrapping_add(reader.end);
+    let end = refill(rt, piece);
     taken_at(reader, 0, end, before, piece)
 }
 
 // Takes as many bytes as the room has.
-fn fill(reader: Reader, piece: &mut Piece, room: &mut [u8]) -> Reader {
+fn fill(rt: &HostRuntime, reader: Reader, piece: &mut Piece, room: &mut [u8]) -> Reader {
     let mut left = reader;
     let mut i = 0;
     while i < room.len() {
-        let taken = take(left, piece);
+        let taken = take(rt, left, piece);
         left = taken.reader;
         room[i] = taken.byte;
         i += 1;
@@ -149,12 +149,12 @@ fn of_two(low: u8, high: u8) -> usize
 }
 
 // Takes a length, low byte first.
-fn take_length(reader: Reader, piece: &mut Piece) -> Counted
+fn take_length(rt: &HostRuntime, reader: Reader, piece: &mut Piece) -> Counted
     ensures { result.count ≤ 4096 }
 {
-    let low = take(reader, piece);
+    let low = take(rt, reader, piece);
     let between = low.reader;
-    let high = take(between, piece);
+    let high = take(rt, between, piece);
     let behind = high.reader;
     let count = of_two(low.byte, high.byte);
     if 4096 < count {
@@ -170,12 +170,12 @@ fn take_length(reader: Reader, piece: &mut Piece) -> Counted
 }
 
 // Takes a length and a byte: a lent sheet or buffer, and what it is filled with before.
-pub(crate) fn take_lent(reader: Reader, piece: &mut Piece) -> Sized
+pub(crate) fn take_lent(rt: &HostRuntime, reader: Reader, piece: &mut Piece) -> Sized
     ensures { result.count ≤ 4096 }
 {
-    let size = take_length(reader, piece);
+    let size = take_length(rt, reader, piece);
     let between = size.reader;
-    let filling = take(between, piece);
+    let filling = take(rt, between, piece);
     let behind = filling.reader;
     Sized {
         byte: filling.byte,
@@ -185,16 +185,21 @@ pub(crate) fn take_lent(reader: Reader, piece: &mut Piece) -> Sized
 }
 
 // Takes a byte, a length, and that many bytes to the front of the room.
-pub(crate) fn take_block(reader: Reader, piece: &mut Piece, room: &mut [u8]) -> Sized
+pub(crate) fn take_block(
+    rt: &HostRuntime,
+    reader: Reader,
+    piece: &mut Piece,
+    room: &mut [u8],
+) -> Sized
     requires { 4096 ≤ length room.old }
     ensures { result.count ≤ 4096 }
 {
-    let first = take(reader, piece);
+    let first = take(rt, reader, piece);
     let at_length = first.reader;
-    let size = take_length(at_length, piece);
+    let size = take_length(rt, at_length, piece);
     let at_bytes = size.reader;
     let count = size.count;
-    let behind = fill(at_bytes, piece, &mut room[0..count]);
+    let behind = fill(rt, at_bytes, piece, &mut room[0..count]);
     Sized {
         byte: first.byte,
         count,
@@ -203,14 +208,19 @@ pub(crate) fn take_block(reader: Reader, piece: &mut Piece, room: &mut [u8]) -> 
 }
 
 // Takes a length of one byte, and that many bytes to the front of the room.
-pub(crate) fn take_text(reader: Reader, piece: &mut Piece, room: &mut [u8]) -> Counted
+pub(crate) fn take_text(
+    rt: &HostRuntime,
+    reader: Reader,
+    piece: &mut Piece,
+    room: &mut [u8],
+) -> Counted
     requires { 255 ≤ length room.old }
     ensures { result.count ≤ 255 }
 {
-    let head = take(reader, piece);
+    let head = take(rt, reader, piece);
     let at_bytes = head.reader;
     let count = wide(head.byte);
-    let behind = fill(at_bytes, piece, &mut room[0..count]);
+    let behind = fill(rt, at_bytes, piece, &mut room[0..count]);
     Counted {
         count,
         reader: behind,

@@ -16,6 +16,7 @@
 //
 // What it is run on, and what it must write, is made from the calls in calls.tsv by the script `make`.
 #![tactic(auto)]
+
 mod input;
 mod output;
 
@@ -34,11 +35,11 @@ struct Desk {
 }
 
 // The end, at what is no record: which one, where it starts, and why, with the end of the line.
-fn refuse(reader: Reader, pen: Pen, page: &mut Page, why: &[u8]) -> Desk {
-    let begun = output::put_all(pen, page, b"?");
-    let numbered = output::put_number(begun, page, reader.record);
-    let placed = output::put_number(numbered, page, reader.start);
-    let told = output::put_all(placed, page, why);
+fn refuse(rt: &HostRuntime, reader: Reader, pen: Pen, page: &mut Page, why: &[u8]) -> Desk {
+    let begun = output::put_all(rt, pen, page, b"?");
+    let numbered = output::put_number(rt, begun, page, reader.record);
+    let placed = output::put_number(rt, numbered, page, reader.start);
+    let told = output::put_all(rt, placed, page, why);
     Desk {
         reader,
         pen: told,
@@ -47,17 +48,17 @@ fn refuse(reader: Reader, pen: Pen, page: &mut Page, why: &[u8]) -> Desk {
 }
 
 // The end, at a record that could not be taken to its own end.
-fn stop(reader: Reader, pen: Pen, page: &mut Page) -> Desk {
+fn stop(rt: &HostRuntime, reader: Reader, pen: Pen, page: &mut Page) -> Desk {
     if reader.overlong {
-        refuse(reader, pen, page, b" length over 4096\n")
+        refuse(rt, reader, pen, page, b" length over 4096\n")
     } else {
-        refuse(reader, pen, page, b" cut short\n")
+        refuse(rt, reader, pen, page, b" cut short\n")
     }
 }
 
 // The end of a line: the next record may come.
-fn finish(reader: Reader, pen: Pen, page: &mut Page) -> Desk {
-    let told = output::put_all(pen, page, b"\n");
+fn finish(rt: &HostRuntime, reader: Reader, pen: Pen, page: &mut Page) -> Desk {
+    let told = output::put_all(rt, pen, page, b"\n");
     Desk {
         reader,
         pen: told,
@@ -73,18 +74,26 @@ pub(crate) fn wide(byte: u8) -> usize
 }
 
 // The beginning of a line: the letter and the answer's number.
-fn begin(pen: Pen, page: &mut Page, letter: &[u8], answer: u8) -> Pen {
-    let named = output::put_all(pen, page, letter);
-    output::put_number(named, page, wide(answer))
+fn begin(rt: &HostRuntime, pen: Pen, page: &mut Page, letter: &[u8], answer: u8) -> Pen {
+    let named = output::put_all(rt, pen, page, letter);
+    output::put_number(rt, named, page, wide(answer))
 }
 
 // The line of an opening or a delivery.
-fn tell(reader: Reader, pen: Pen, page: &mut Page, letter: &[u8], reply: Reply) -> Desk {
-    let begun = begin(pen, page, letter, station::number_of(reply));
-    finish(reader, begun, page)
+fn tell(
+    rt: &HostRuntime,
+    reader: Reader,
+    pen: Pen,
+    page: &mut Page,
+    letter: &[u8],
+    reply: Reply,
+) -> Desk {
+    let begun = begin(rt, pen, page, letter, station::number_of(reply));
+    finish(rt, reader, begun, page)
 }
 
 fn opening(
+    rt: &HostRuntime,
     marks: &mut Marks,
     places: &mut Places,
     contents: &mut Contents,
@@ -94,18 +103,19 @@ fn opening(
     piece: &mut Piece,
     page: &mut Page,
 ) -> Desk {
-    let line = input::take(reader, piece);
+    let line = input::take(rt, reader, piece);
     let at_mode = line.reader;
-    let mode = input::take(at_mode, piece);
+    let mode = input::take(rt, at_mode, piece);
     let behind = mode.reader;
     if behind.ended {
-        return stop(behind, pen, page);
+        return stop(rt, behind, pen, page);
     }
     let reply = station::open(marks, places, contents, inboxes, line.byte, mode.byte);
-    tell(behind, pen, page, b"O", reply)
+    tell(rt, behind, pen, page, b"O", reply)
 }
 
 fn delivery(
+    rt: &HostRuntime,
     marks: &mut Marks,
     places: &mut Places,
     contents: &mut Contents,
@@ -116,11 +126,11 @@ fn delivery(
     page: &mut Page,
 ) -> Desk {
     let mut room = [0u8; 4096];
-    let block = input::take_block(reader, piece, &mut room);
+    let block = input::take_block(rt, reader, piece, &mut room);
     let behind = block.reader;
     let count = block.count;
     if behind.ended {
-        return stop(behind, pen, page);
+        return stop(rt, behind, pen, page);
     }
     let reply = station::deliver(
         marks,
@@ -130,14 +140,14 @@ fn delivery(
         block.byte,
         &room[0..count],
     );
-    tell(behind, pen, page, b"D", reply)
+    tell(rt, behind, pen, page, b"D", reply)
 }
 
-fn put_counts(pen: Pen, page: &mut Page, counts: [u8; 8]) -> Pen {
+fn put_counts(rt: &HostRuntime, pen: Pen, page: &mut Page, counts: [u8; 8]) -> Pen {
     let mut after = pen;
     let mut i = 0;
     while i < 8 {
-        after = output::put_number(after, page, wide(counts[i]));
+        after = output::put_number(rt, after, page, wide(counts[i]));
         i += 1;
     }
     after
@@ -145,6 +155,7 @@ fn put_counts(pen: Pen, page: &mut Page, counts: [u8; 8]) -> Pen {
 
 // A round with this sheet, and its line.
 fn serve(
+    rt: &HostRuntime,
     marks: &mut Marks,
     places: &mut Places,
     contents: &mut Contents,
@@ -157,13 +168,14 @@ fn serve(
     let rounded = station::round(marks, places, contents, inboxes, sheet);
     let counts = rounded.counts;
     let reply = rounded.reply;
-    let begun = begin(pen, page, b"R", station::number_of(reply));
-    let counted = put_counts(begun, page, counts);
-    let shown = output::put_hex(counted, page, sheet);
-    finish(reader, shown, page)
+    let begun = begin(rt, pen, page, b"R", station::number_of(reply));
+    let counted = put_counts(rt, begun, page, counts);
+    let shown = output::put_hex(rt, counted, page, sheet);
+    finish(rt, reader, shown, page)
 }
 
 fn round(
+    rt: &HostRuntime,
     marks: &mut Marks,
     places: &mut Places,
     contents: &mut Contents,
@@ -173,14 +185,15 @@ fn round(
     piece: &mut Piece,
     page: &mut Page,
 ) -> Desk {
-    let lent = input::take_lent(reader, piece);
+    let lent = input::take_lent(rt, reader, piece);
     let behind = lent.reader;
     let count = lent.count;
     if behind.ended {
-        return stop(behind, pen, page);
+        return stop(rt, behind, pen, page);
     }
     let mut sheet = [lent.byte; 4096];
     serve(
+        rt,
         marks,
         places,
         contents,
@@ -193,34 +206,35 @@ fn round(
 }
 
 // Judges a content: its line, but for the end.
-fn judge(pen: Pen, page: &mut Page, mode: u8, content: &[u8]) -> Pen {
+fn judge(rt: &HostRuntime, pen: Pen, page: &mut Page, mode: u8, content: &[u8]) -> Pen {
     let judgement = groups::judge(mode, content);
     let judged = judgement.judged;
     let verdict = judged.verdict;
     let label = judged.label;
     let stamp = judged.stamp;
     let data = judged.data;
-    let begun = begin(pen, page, b"J", groups::number_of(verdict));
-    let labelled = output::put_hex(begun, page, groups::part(content, label));
-    let stamped = output::put_hex(labelled, page, groups::part(content, stamp));
-    let filled = output::put_hex(stamped, page, groups::part(content, data));
-    output::put_number(filled, page, judgement.place)
+    let begun = begin(rt, pen, page, b"J", groups::number_of(verdict));
+    let labelled = output::put_hex(rt, begun, page, groups::part(content, label));
+    let stamped = output::put_hex(rt, labelled, page, groups::part(content, stamp));
+    let filled = output::put_hex(rt, stamped, page, groups::part(content, data));
+    output::put_number(rt, filled, page, judgement.place)
 }
 
-fn judging(reader: Reader, pen: Pen, piece: &mut Piece, page: &mut Page) -> Desk {
+fn judging(rt: &HostRuntime, reader: Reader, pen: Pen, piece: &mut Piece, page: &mut Page) -> Desk {
     let mut room = [0u8; 4096];
-    let block = input::take_block(reader, piece, &mut room);
+    let block = input::take_block(rt, reader, piece, &mut room);
     let behind = block.reader;
     let count = block.count;
     if behind.ended {
-        return stop(behind, pen, page);
+        return stop(rt, behind, pen, page);
     }
-    let shown = judge(pen, page, block.byte, &room[0..count]);
-    finish(behind, shown, page)
+    let shown = judge(rt, pen, page, block.byte, &room[0..count]);
+    finish(rt, behind, shown, page)
 }
 
 // Writes a group into this buffer: the line, but for the end.
 fn write(
+    rt: &HostRuntime,
     pen: Pen,
     page: &mut Page,
     mode: u8,
@@ -231,27 +245,27 @@ fn write(
 ) -> Pen {
     let written = groups::write(mode, label, stamp, data, buffer);
     let outcome = written.outcome;
-    let begun = begin(pen, page, b"W", groups::number_of_writing(outcome));
-    let counted = output::put_number(begun, page, written.count);
-    output::put_hex(counted, page, buffer)
+    let begun = begin(rt, pen, page, b"W", groups::number_of_writing(outcome));
+    let counted = output::put_number(rt, begun, page, written.count);
+    output::put_hex(rt, counted, page, buffer)
 }
 
-fn writing(reader: Reader, pen: Pen, piece: &mut Piece, page: &mut Page) -> Desk {
+fn writing(rt: &HostRuntime, reader: Reader, pen: Pen, piece: &mut Piece, page: &mut Page) -> Desk {
     let mut label = [0u8; 255];
     let mut stamp = [0u8; 255];
     let mut data = [0u8; 255];
-    let mode = input::take(reader, piece);
+    let mode = input::take(rt, reader, piece);
     let at_label = mode.reader;
-    let labelled = input::take_text(at_label, piece, &mut label);
+    let labelled = input::take_text(rt, at_label, piece, &mut label);
     let at_stamp = labelled.reader;
-    let stamped = input::take_text(at_stamp, piece, &mut stamp);
+    let stamped = input::take_text(rt, at_stamp, piece, &mut stamp);
     let at_data = stamped.reader;
-    let filled = input::take_text(at_data, piece, &mut data);
+    let filled = input::take_text(rt, at_data, piece, &mut data);
     let at_lent = filled.reader;
-    let lent = input::take_lent(at_lent, piece);
+    let lent = input::take_lent(rt, at_lent, piece);
     let behind = lent.reader;
     if behind.ended {
-        return stop(behind, pen, page);
+        return stop(rt, behind, pen, page);
     }
     let to_label = labelled.count;
     let to_stamp = stamped.count;
@@ -259,6 +273,7 @@ fn writing(reader: Reader, pen: Pen, piece: &mut Piece, page: &mut Page) -> Desk
     let count = lent.count;
     let mut buffer = [lent.byte; 4096];
     let shown = write(
+        rt,
         pen,
         page,
         mode.byte,
@@ -267,11 +282,12 @@ fn writing(reader: Reader, pen: Pen, piece: &mut Piece, page: &mut Page) -> Desk
         &data[0..to_data],
         &mut buffer[0..count],
     );
-    finish(behind, shown, page)
+    finish(rt, behind, shown, page)
 }
 
 // The record that begins with this letter.
 fn replay(
+    rt: &HostRuntime,
     marks: &mut Marks,
     places: &mut Places,
     contents: &mut Contents,
@@ -283,24 +299,31 @@ fn replay(
     letter: u8,
 ) -> Desk {
     match letter {
-        b'O' => opening(marks, places, contents, inboxes, reader, pen, piece, page),
-        b'D' => delivery(marks, places, contents, inboxes, reader, pen, piece, page),
-        b'R' => round(marks, places, contents, inboxes, reader, pen, piece, page),
-        b'J' => judging(reader, pen, piece, page),
-        b'W' => writing(reader, pen, piece, page),
-        _ => refuse(reader, pen, page, b" unknown letter\n"),
+        b'O' => opening(
+            rt, marks, places, contents, inboxes, reader, pen, piece, page,
+        ),
+        b'D' => delivery(
+            rt, marks, places, contents, inboxes, reader, pen, piece, page,
+        ),
+        b'R' => round(
+            rt, marks, places, contents, inboxes, reader, pen, piece, page,
+        ),
+        b'J' => judging(rt, reader, pen, piece, page),
+        b'W' => writing(rt, reader, pen, piece, page),
+        _ => refuse(rt, reader, pen, page, b" unknown letter\n"),
     }
 }
 
 // Whoever waits for a line gets it before the program may have to wait for input.
-fn settled(reader: Reader, pen: Pen, page: &mut Page) -> Pen {
+fn settled(rt: &HostRuntime, reader: Reader, pen: Pen, page: &mut Page) -> Pen {
     if input::is_used_up(reader) {
-        return output::flush(pen, page);
+        return output::flush(rt, pen, page);
     }
     pen
 }
 
 fn replay_next(
+    rt: &HostRuntime,
     marks: &mut Marks,
     places: &mut Places,
     contents: &mut Contents,
@@ -311,7 +334,7 @@ fn replay_next(
 ) -> Desk {
     let reader = desk.reader;
     let told = desk.pen;
-    let pen = settled(reader, told, page);
+    let pen = settled(rt, reader, told, page);
     if pen.closed {
         return Desk {
             reader,
@@ -320,7 +343,7 @@ fn replay_next(
         };
     }
     let begun = input::at_record(reader);
-    let taken = input::take(begun, piece);
+    let taken = input::take(rt, begun, piece);
     let behind = taken.reader;
     if behind.ended {
         return Desk {
@@ -330,12 +353,12 @@ fn replay_next(
         };
     }
     replay(
-        marks, places, contents, inboxes, behind, pen, piece, page, taken.byte,
+        rt, marks, places, contents, inboxes, behind, pen, piece, page, taken.byte,
     )
 }
 
 // A proved loop has to end, and nothing says that an input does: it counts down from a number that no run uses up.
-fn main() {
+fn main(rt: HostRuntime) {
     let mut piece = [0u8; 4096];
     let mut page = [0u8; 4096];
     let mut marks = [[0u8; 6]; 8];
@@ -350,6 +373,7 @@ fn main() {
     let mut turns = u64::MAX;
     while turns > 0 && !desk.done {
         desk = replay_next(
+            &rt,
             &mut marks,
             &mut places,
             &mut contents,
@@ -361,5 +385,5 @@ fn main() {
         turns -= 1;
     }
     let pen = desk.pen;
-    output::flush(pen, &mut page);
+    output::flush(&rt, pen, &mut page);
 }

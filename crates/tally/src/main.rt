@@ -8,6 +8,7 @@
 // loop by it. It is proved to be safe and to end. Where a test could be left out, since what it asks always holds, the
 // test spares the proof of that.
 #![tactic(auto)]
+
 ghost use Rattle.std.specs.Prelude.{◌≡◌, ◌+◌, ◌<◌, ◌≤◌};
 
 use line::{LineState, Opening};
@@ -22,7 +23,7 @@ enum Progress {
 // One answer more of this number. There is room for every number.
 fn count_one(counts: &mut [u64], number: usize) {
     if number < counts.len() {
-        counts[number] = std::num::wrapping_add_u64(counts[number], 1);
+        counts[number] = counts[number].wrapping_add(1);
     }
 }
 
@@ -62,12 +63,13 @@ fn count_piece(
 // Reads a piece of the capture into the lent room and counts its answers. An input that ends, or can't be read any more,
 // is over.
 fn count_some(
+    rt: &HostRuntime,
     line: LineState,
     content: &mut [u8; 128],
     room: &mut [u8],
     counts: &mut [u64],
 ) -> Progress {
-    let got = streams::read(b"tally", room);
+    let got = streams::read(rt, b"tally", room);
     let n = io::count(got, room);
     if n == 0 {
         return Progress::Over;
@@ -77,13 +79,13 @@ fn count_some(
 
 // Counts the answers to all that comes, for a line that was just opened. A proved loop has to end, and nothing says
 // that an input does: the loop counts down from a number that no run uses up.
-fn count_all(line: LineState, counts: &mut [u64]) {
+fn count_all(rt: &HostRuntime, line: LineState, counts: &mut [u64]) {
     let mut content = [0; 128];
     let mut room = io::buffer();
     let mut at = line;
     let mut turns = u64::MAX;
     while turns > 0 {
-        let progress = count_some(at, &mut content, &mut room, counts);
+        let progress = count_some(rt, at, &mut content, &mut room, counts);
         let Progress::Going(next) = progress else {
             return;
         };
@@ -93,26 +95,29 @@ fn count_all(line: LineState, counts: &mut [u64]) {
 }
 
 // Writes a text, and tells whether all of it went out.
-fn print(text: &[u8]) -> bool {
-    streams::print(b"tally", text)
+fn print(rt: &HostRuntime, text: &[u8]) -> bool {
+    streams::print(rt, b"tally", text)
 }
 
-fn print_number(number: u64) -> bool {
+fn print_number(rt: &HostRuntime, number: u64) -> bool {
     let mut text = [0u8; 20];
     let count = io::decimal(number, &mut text);
-    print(&text[..count])
+    print(rt, &text[..count])
 }
 
 // Writes the line of a number; whether it could be written.
-fn show(number: usize, count: u64) -> bool {
-    print_number(number as u64) && print(b" ") && print_number(count) && print(b"\n")
+fn show(rt: &HostRuntime, number: usize, count: u64) -> bool {
+    print_number(rt, number as u64)
+        && print(rt, b" ")
+        && print_number(rt, count)
+        && print(rt, b"\n")
 }
 
 // Writes the lines of the numbers from 1 on, and stops where one can't be written.
-fn show_all(counts: &[u64]) {
+fn show_all(rt: &HostRuntime, counts: &[u64]) {
     let mut number = 1;
     while number < counts.len() {
-        if !show(number, counts[number]) {
+        if !show(rt, number, counts[number]) {
             return;
         }
         number += 1;
@@ -133,21 +138,21 @@ fn begin(count: isize, letter: u8) -> Opening {
 }
 
 // An input that can't be read is no capture, not even an empty one: nothing is counted of it.
-fn main() {
+fn main(rt: HostRuntime) {
     let mut counts = [0; 15];
     let mut first = [0; 1];
-    let got = streams::read(b"tally", &mut first);
+    let got = streams::read(&rt, b"tally", &mut first);
     if got < 0 {
         return;
     }
     let opening = begin(got, first[0]);
     match opening {
         Opening::Opened(line) => {
-            count_all(line, &mut counts);
-            show_all(&counts);
+            count_all(&rt, line, &mut counts);
+            show_all(&rt, &counts);
         }
         Opening::ModeUnknown => {
-            print(b"20\n");
+            print(&rt, b"20\n");
         }
     }
 }

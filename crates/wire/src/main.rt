@@ -6,6 +6,7 @@
 // Lines are gathered on a page and written when it is full, and when all that was read is shown: a line that is still
 // being captured is shown as it comes, and a long capture takes few writes.
 #![tactic(auto)]
+
 ghost use Rattle.std.specs.Prelude.{◌≡◌, ◌+◌, ◌<◌, ◌≤◌, length};
 
 use characters::{CR, EOT, ETX, HT, LF, SP, STX};
@@ -83,11 +84,11 @@ fn put(page: &mut [u8], at: usize, wire: u8) -> usize
 
 // Writes the first bytes of the page, whole lines, and tells whether they went out. There are never more than it has:
 // the test spares the proof of that.
-fn write_front(page: &[u8], count: usize) -> bool {
+fn write_front(rt: &HostRuntime, page: &[u8], count: usize) -> bool {
     if page.len() < count {
         return false;
     }
-    streams::print(b"wire", &page[0..count])
+    streams::print(rt, b"wire", &page[0..count])
 }
 
 // A page with room for one more line: where the next line goes, and whether the page could be written to make room.
@@ -97,13 +98,13 @@ struct Pen {
     closed: bool,
 }
 
-fn with_room(page: &[u8], at: usize) -> Pen
+fn with_room(rt: &HostRuntime, page: &[u8], at: usize) -> Pen
     ensures { result.at + 11 ≤ 4096 }
 {
     if at <= PAGE - LONGEST {
         return Pen { at, closed: false };
     }
-    let written = write_front(page, at);
+    let written = write_front(rt, page, at);
     Pen {
         at: 0,
         closed: !written,
@@ -111,36 +112,36 @@ fn with_room(page: &[u8], at: usize) -> Pen
 }
 
 // Shows bytes until a page can't be written, and tells whether all were.
-fn show_all(bytes: &[u8]) -> bool {
+fn show_all(rt: &HostRuntime, bytes: &[u8]) -> bool {
     let mut page = io::buffer();
     let mut at = 0;
     let mut i = 0;
     while i < bytes.len() {
-        let pen = with_room(&page, at);
+        let pen = with_room(rt, &page, at);
         if pen.closed {
             return false;
         }
         at = put(&mut page, pen.at, bytes[i]);
         i += 1;
     }
-    write_front(&page, at)
+    write_front(rt, &page, at)
 }
 
 // Reads once, shows what came, and tells whether there may be more.
-fn show_some() -> bool {
+fn show_some(rt: &HostRuntime) -> bool {
     let mut piece = io::buffer();
-    let got = streams::read(b"wire", &mut piece);
+    let got = streams::read(rt, b"wire", &mut piece);
     let n = io::count(got, &piece);
     if n == 0 {
         return false;
     }
-    show_all(&piece[..n])
+    show_all(rt, &piece[..n])
 }
 
 // A proved loop has to end, and nothing says that an input does: the loop counts down from a number that no run uses up.
-fn main() {
+fn main(rt: HostRuntime) {
     let mut turns = u64::MAX;
-    while turns > 0 && show_some() {
+    while turns > 0 && show_some(&rt) {
         turns -= 1;
     }
 }

@@ -6,10 +6,11 @@
 //
 // usage: ./espandim worked < RECORDS
 #![tactic(auto)]
+
 ghost use Rattle.std.specs.Prelude.{◌<◌};
 
 use characters::{CR, LF};
-use libc::STDIN_FILENO;
+use std::io::Read;
 
 // The number of a byte, with room for sums.
 fn wide(byte: u8) -> usize
@@ -19,36 +20,36 @@ fn wide(byte: u8) -> usize
 }
 
 // Writes a text, and tells whether all of it went out.
-fn print(text: &[u8]) -> bool {
-    streams::print(b"worked", text)
+fn print(rt: &HostRuntime, text: &[u8]) -> bool {
+    streams::print(rt, b"worked", text)
 }
 
-fn end_line() -> bool {
-    print(b"\n")
+fn end_line(rt: &HostRuntime) -> bool {
+    print(rt, b"\n")
 }
 
-fn show_number(number: u64) -> bool {
+fn show_number(rt: &HostRuntime, number: u64) -> bool {
     let mut text = [0u8; 20];
     let count = io::decimal(number, &mut text);
-    print(&text[..count])
+    print(rt, &text[..count])
 }
 
 // The number of an answer, and its place.
-fn show_told(number: u8, place: usize) -> bool {
-    show_number(number as u64) && print(b" ") && show_number(place as u64)
+fn show_told(rt: &HostRuntime, number: u8, place: usize) -> bool {
+    show_number(rt, number as u64) && print(rt, b" ") && show_number(rt, place as u64)
 }
 
 // A field of a line, after the space that parts it from what stands before.
-fn show_field(field: &[u8]) -> bool {
-    print(b" ") && print(field)
+fn show_field(rt: &HostRuntime, field: &[u8]) -> bool {
+    print(rt, b" ") && print(rt, field)
 }
 
 // An empty stamp is shown as `-`, or else the data could be taken for it.
-fn show_stamp(stamp: &[u8]) -> bool {
+fn show_stamp(rt: &HostRuntime, stamp: &[u8]) -> bool {
     if stamp.len() == 0 {
-        show_field(b"-")
+        show_field(rt, b"-")
     } else {
-        show_field(stamp)
+        show_field(rt, stamp)
     }
 }
 
@@ -90,40 +91,48 @@ fn comes_again(mode: u8, label: &[u8], stamp: &[u8], data: &[u8], content: &[u8]
     groups::number_of_writing(outcome) == 0 && holds_group(&buffer, count, content)
 }
 
-fn show_again(same: bool) -> bool {
+fn show_again(rt: &HostRuntime, same: bool) -> bool {
     if same {
-        print(b"same\n")
+        print(rt, b"same\n")
     } else {
-        print(b"other\n")
+        print(rt, b"other\n")
     }
 }
 
 // The rest of an accepted group's line, and the line after it.
-fn show_accepted(mode: u8, label: &[u8], stamp: &[u8], data: &[u8], content: &[u8]) -> bool {
-    show_field(label)
-        && show_stamp(stamp)
-        && show_field(data)
-        && end_line()
-        && show_again(comes_again(mode, label, stamp, data, content))
+fn show_accepted(
+    rt: &HostRuntime,
+    mode: u8,
+    label: &[u8],
+    stamp: &[u8],
+    data: &[u8],
+    content: &[u8],
+) -> bool {
+    show_field(rt, label)
+        && show_stamp(rt, stamp)
+        && show_field(rt, data)
+        && end_line(rt)
+        && show_again(rt, comes_again(mode, label, stamp, data, content))
 }
 
 // The lines of one group.
-fn show(mode: u8, content: &[u8]) -> bool {
+fn show(rt: &HostRuntime, mode: u8, content: &[u8]) -> bool {
     let judgement = groups::judge(mode, content);
     let judged = judgement.judged;
     let place = judgement.place;
     let verdict = judged.verdict;
     let number = groups::number_of(verdict);
-    if !show_told(number, place) {
+    if !show_told(rt, number, place) {
         return false;
     }
     if number != 1 {
-        return end_line();
+        return end_line(rt);
     }
     let label = judged.label;
     let stamp = judged.stamp;
     let data = judged.data;
     show_accepted(
+        rt,
         mode,
         groups::part(content, label),
         groups::part(content, stamp),
@@ -134,34 +143,34 @@ fn show(mode: u8, content: &[u8]) -> bool {
 
 // Reads a content of this length into the room for it, and shows its lines. One that does not fit, or is cut short,
 // has none. The parts have both their ends written out: the prover then knows their length by itself.
-fn show_next(mode: u8, length: usize, room: &mut [u8]) -> bool {
+fn show_next(rt: &HostRuntime, mode: u8, length: usize, room: &mut [u8]) -> bool {
     if length > room.len() {
         return false;
     }
-    let got = io::read_full(STDIN_FILENO, &mut room[0..length]);
-    if got < length {
+    let mut input = rt.stdin();
+    if input.read_exact(&mut room[0..length]).is_err() {
         return false;
     }
-    show(mode, &room[0..length])
+    show(rt, mode, &room[0..length])
 }
 
 // Reads one record, shows its lines, and tells whether to go on. The program ends with the input, at a record that is
 // cut short or has more than 256 bytes of content, and at the first write that fails.
-fn show_record() -> bool {
+fn show_record(rt: &HostRuntime) -> bool {
     let mut head = [0; 3];
-    let got = io::read_full(STDIN_FILENO, &mut head);
-    if got < 3 {
+    let mut input = rt.stdin();
+    if input.read_exact(&mut head).is_err() {
         return false;
     }
     let length = wide(head[1]) + 256 * wide(head[2]);
     let mut room = [0; 256];
-    show_next(head[0], length, &mut room)
+    show_next(rt, head[0], length, &mut room)
 }
 
 // A proved loop has to end, and nothing says that an input does: the loop counts down from a number that no run uses up.
-fn main() {
+fn main(rt: HostRuntime) {
     let mut turns = u64::MAX;
-    while turns > 0 && show_record() {
+    while turns > 0 && show_record(&rt) {
         turns -= 1;
     }
 }
