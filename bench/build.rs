@@ -11,8 +11,8 @@ fn main() {
     println!("cargo:rerun-if-env-changed={VARIABLE}");
     let Some(folder) = std::env::var_os(VARIABLE).map(PathBuf::from) else {
         eprintln!(
-            "Set {VARIABLE} to the folder of libespandim.a, as bench/run does: `rt staticlib espandim` makes it for \
-             x86-64, in target/staticlib; bench/native FOLDER makes one to measure on another processor."
+            "Set {VARIABLE} to the folder of libespandim.a, as bench/run does: `rt lib` in crates/espandim makes it for \
+             x86-64, in crates/espandim/out."
         );
         exit(1);
     };

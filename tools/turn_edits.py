@@ -260,7 +260,7 @@ class Turned:
         found = {}
         for text, way in ((edited, 1), (turned, -1)):
             for module, names in IMPORT.findall("\n".join(text)):
-                for name in re.split(r"[\s,]+", names.strip(" \n,")):
+                for name in (it.strip() for it in names.strip(" \n,").split(",")):
                     found[module, name] = found.get((module, name), 0) + way
         modules = {}
         for (module, name), count in found.items():

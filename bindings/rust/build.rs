@@ -14,8 +14,7 @@ fn main() {
     let Some(folder) = std::env::var_os(VARIABLE).map(PathBuf::from) else {
         println!(
             "cargo:warning={VARIABLE} is not set, so only `cargo check` and `cargo doc` will do. Set it to the folder of \
-             libespandim.a. In the repository, `rt staticlib espandim` makes it for x86-64, in target/staticlib; \
-             bindings/rust/native-archive FOLDER makes one to try on another processor."
+             libespandim.a. In the repository, `rt lib` in crates/espandim makes it for x86-64, in crates/espandim/out."
         );
         return;
     };
