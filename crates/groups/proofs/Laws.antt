@@ -20,6 +20,7 @@ pub mod Conditions
 pub mod Unknown
 pub mod Known
 pub mod ByNumber
+pub mod Short
 pub mod Stretches
 pub mod Writer
 pub mod Written

@@ -9,6 +9,7 @@ pub mod Openings
 pub mod Heard
 pub mod Accepted
 pub mod LookingBack
+pub mod NextFrame
 pub mod FrameNumbers
 pub mod GroupsByBytes
 pub mod PlacesByBytes

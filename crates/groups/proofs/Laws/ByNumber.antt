@@ -4,7 +4,6 @@ use Rattle.std.proofs.Math.Path.{refl}
 use Rattle.std.proofs.Common.{sym, ap, ◌∙◌, subst, arith, le→leb}
 use Rattle.std.proofs.lemmas.Bool.{false≢true}
 use Rattle.std.proofs.Math.Option.{some}
-use Rattle.std.proofs.Math.Dec.{leb→le}
 use Rattle.std.proofs.Math.Facts.{and_yes}
 use Rattle.characters.specs.Answers.{Answer, refused, given, not_given, need_yes, need_given, found, found_yes, found_given, found_exactly, every, first_of, pick}
 use Rattle.characters.specs.Wire.{is_sound}
@@ -52,11 +51,6 @@ module _ (number : ℕ) (c : List ℕ) (g : Group) where
     λ e. let (m, k, h) = judged_in.0 e in (m, k, (right_exactly m c g).0 h),
     λ (m, k, h). judged_in.1 (m, k, (right_exactly m c g).1 h),
   )
-
-  -- what is accepted has at most 128 characters
-  pub judged_short : judging number c ≡ given g → length c ≤ 128
-  unfolding read
-  judged_short e = let (m, k, h) = judged_in.0 e in leb→le (length c) 128 (need_given _ _ _ h).0
 
   -- and each of them is HT or one of 0x20 to 0x7E
   pub judged_plain : judging number c ≡ given g → T (are_plain c)

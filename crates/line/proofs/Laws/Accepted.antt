@@ -8,7 +8,7 @@ use Rattle.groups.specs.Groups.{Group}
 use Rattle.groups.specs.Judging.{judging}
 use Rattle.groups.specs.Place.{place_of}
 use Rattle.groups.specs.Right.{RightGroup}
-use Rattle.groups.proofs.Laws.ByNumber.{judged_short}
+use Rattle.groups.proofs.Laws.Short.{judged_short}
 use Rattle.groups.proofs.Promises as groups
 use Rattle.groups.specs.declared.Mode.{Mode}
 use Rattle.groups.specs.declared.Refusal.{Refusal}

@@ -1,7 +1,7 @@
 -- The number of a line's frame: one more at every STX is, by the bytes alone, their count. And what is so of a stretch's
 -- answers is so of them with their numbers.
 use Rattle.std.specs.Prelude.{◌≡◌, refl, ◌↔◌, Bool, ℕ, suc, ◌+◌, ◌%◌, ◌≤◌, ◌<◌, eqb, length, take}
-use Rattle.std.proofs.Common.{sym, ap, ◌∙◌, eq-eqb, ne_eqb, eqb-true}
+use Rattle.std.proofs.Common.{sym, ap, ◌∙◌, eqb-true}
 use Rattle.std.proofs.Math.Bool.{true, false}
 use Rattle.std.proofs.Math.Option.{Option, none, some}
 use mathlib.Core.List.{List, [], ◌∷◌, ◌++◌, append-nil, map}
@@ -19,6 +19,7 @@ use Rattle.line.specs.Entries.{Entry, Framed, framed, framed_if, entry_list, fir
 use Rattle.line.specs.FrameNumbers.{next_frame, frame_at, frame_after, framed_after, framed_answers}
 use Rattle.line.specs.Numbers.{shown_framed}
 use Rattle.line.specs.ByBytes.{is, answer_due, count_of, frame_number, entry_due, answers_due, is_answered, up_to_answer}
+use Rattle.line.proofs.Laws.NextFrame.{next_last, next_other}
 use Rattle.line.proofs.Laws.Bytes as bytes
 use Rattle.line.proofs.Laws.Until as until
 use Rattle.line.proofs.Laws.LookingBack.{is_as, tests}
@@ -63,15 +64,6 @@ at_stx n b = rw (tests b).0 (go (symbol_of b))
     go Cr = refl
     go Damaged = refl
     go (Text c) = refl
-
--- the last number, and every other
-pub next_last : (n : ℕ) → n ≡ 65535 → next_frame n ≡ 0
-unfolding next_frame pick
-next_last n e = rw (eq-eqb n 65535 e)
-
-pub next_other : (n : ℕ) → (n ≡ 65535 → ⊥) → next_frame n ≡ n + 1
-unfolding next_frame pick
-next_other n h = rw (ne_eqb n 65535 h) (omega arith)
 
 -- "one more .., 65,535 followed by 0" is one more by the remainder of 65,536
 one_more : (k : ℕ) → suc k % 65536 ≡ pick (eqb (k % 65536) 65535) 0 (suc (k % 65536))

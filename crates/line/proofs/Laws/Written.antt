@@ -10,7 +10,8 @@ use Rattle.groups.specs.Groups.{Group}
 use Rattle.groups.specs.Judging.{judging}
 use Rattle.groups.specs.Writing.{on_the_wire, off_the_wire, writing}
 use Rattle.groups.proofs.Laws.OnTheWire.{is_plain, are_plain, plain_below, on_is}
-use Rattle.groups.proofs.Laws.ByNumber.{judged_short, judged_plain}
+use Rattle.groups.proofs.Laws.ByNumber.{judged_plain}
+use Rattle.groups.proofs.Laws.Short.{judged_short}
 use Rattle.groups.proofs.Promises.{written_reads_back}
 use Rattle.line.specs.Symbols.{sound_symbol, symbol_of}
 use Rattle.line.specs.Lines.{LineAnswer, after, answers, in_frame}
