@@ -1,13 +1,9 @@
 /* The boundary of Espandim to C: eight meters' lines behind five functions, which are proved in Rattle.
  *
- * Link with target/staticlib/libespandim.a, which `rt staticlib espandim` makes for x86-64 Linux; of the C library it needs
- * memcpy and nothing else. The numbers are those of the table in document 01, the customer's scope page.
+ * Link with crates/espandim/out/libespandim.a, which `rt lib` in crates/espandim makes for x86-64 Linux; of the C library it
+ * needs memcpy and nothing else. The numbers are those of the table in document 01, the customer's scope page.
  * crates/espandim/src/lib.rt has the contracts: each answer, and every byte that is lent, is fixed for every input.
  * This header needs C11 or C++11, and nothing beyond them where there are a stddef.h and a stdint.h.
- *
- * On aarch64 the machine's own compiler can't link that archive; the kit's can, without the headers of a C library, and the
- * program runs under the kit's emulator (examples/c/run). For a program with stdio there, `bindings/rust/native-archive
- * FOLDER` compiles the same module for the machine at hand: link with FOLDER/libespandim.a. Of that step nothing is proved.
  *
  * The way to use it (README.md has the lines, which the gate runs): open each line once; deliver what comes off its wire, at
  * most 256 bytes at a time; after each delivery, refused or not, call rounds until all eight counts are 0; what was refused

@@ -52,9 +52,8 @@
 //! # The archive
 //!
 //! A program is linked with `libespandim.a`, from the folder that the environment variable `ESPANDIM_ARCHIVE_FOLDER` names
-//! when cargo runs; `cargo check` and `cargo doc` do without one. `rt staticlib espandim` makes it for x86-64, in
-//! target/staticlib. For another processor `bindings/rust/native-archive FOLDER` compiles the same module; of that step
-//! nothing is proved.
+//! when cargo runs; `cargo check` and `cargo doc` do without one. `rt lib`, in crates/espandim, makes it for x86-64,
+//! in crates/espandim/out.
 //!
 //! # What a caller does not owe
 //!
