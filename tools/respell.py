@@ -1,7 +1,7 @@
 #!/usr/bin/env python3
 """Brings this repository's own names to today's spelling, once, after port.py.
 
-usage: python3 tools/respell.py        at the top of the repository, right after `python3 /opt/rattle/port/port.py`
+usage: python3 tools/respell.py        at the top of the repository, right after the kit's port/port.py
        python3 tools/respell.py --list prints each name that changes, and changes nothing
 
 Definitions, laws, fields of records and variables in specs/ and in the laws of proofs/ go into snake case: `isSound` is

@@ -1,4 +1,4 @@
--- Laws that only the proofs of functions need.
+-- Laws that only the proofs of functions need; then what is promised at the boundary.
 pub mod Telling
 pub mod Promises
 pub mod CallContracts

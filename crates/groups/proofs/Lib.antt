@@ -1,4 +1,4 @@
--- Laws that only the proofs of functions need.
+-- Laws that only the proofs of functions need; then the laws behind the promises, the promises and the figures.
 pub mod Views
 pub mod Walks
 pub mod Keys

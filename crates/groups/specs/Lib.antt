@@ -1,4 +1,4 @@
--- The definitions that the contracts cite, in document 01's order; then the laws behind the promises.
+-- The definitions that the contracts cite, in document 01's order. What is promised stands in proofs/Promises.antt.
 pub mod Modes
 pub mod Kinds
 pub mod Forms

@@ -1,4 +1,5 @@
--- The frame rules and the line in document 01's terms, with the frame numbers of document 02; the same on the code's own numbers; then promises and laws.
+-- The frame rules and the line in document 01's terms, with the frame numbers of document 02; the same on the code's own
+-- numbers. What is promised stands in proofs/Promises.antt.
 pub mod Symbols
 pub mod Rules
 pub mod Lines

@@ -1,4 +1,4 @@
--- The laws that the proofs of several functions cite.
+-- The laws that the proofs of several functions cite; then what is promised, and the laws behind it.
 pub mod Laying
 pub mod Lines
 pub mod Pieces

@@ -1,4 +1,4 @@
--- Laws that only the proofs of functions need.
+-- Laws that only the proofs of functions need; then the laws behind the demands, the demands and the figures.
 pub mod Copying
 pub mod Inboxes
 pub mod Openings

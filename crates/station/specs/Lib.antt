@@ -1,5 +1,5 @@
 -- The calls and the sheet in document 01's words; how a station lies in the caller's memory; what callers see of a list
--- of calls; the demands.
+-- of calls. The demands stand in proofs/Demands.antt.
 pub mod Records
 pub mod Memory
 pub mod Numbers

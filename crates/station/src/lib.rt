@@ -7,8 +7,8 @@
 //  contents  the characters of the group
 //  inboxes   the waiting bytes
 //
-// Zeros are the station with all lines closed. A contract speaks of the memory before and after: `before` and `after`
-// gather the four arrays, as they are at entry and at exit.
+// Zeros are the station with all lines closed. A contract speaks of the memory before and after: `behind`
+// gathers the four arrays, as they are when a call begins (`old`), and when it has returned (`new`).
 #![tactic(auto)]
 
 mod copy;
