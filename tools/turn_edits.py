@@ -2,8 +2,9 @@
 """Brings the must-fail edits and doubt/wrong.txt to today's spelling, once, after port.py, tools/respell.py and the moves of
 theorems from specs/ to proofs/.
 
-usage: python3 tools/turn_edits.py OLDER PORT     at the top of the repository; OLDER is a checkout in the older spelling, with the
-                                                  edits and the list as they were, and PORT the kit's port.py
+usage: python3 tools/turn_edits.py OLDER PORT [ROOM]   at the top of the repository; OLDER is a checkout in the older spelling, with
+                                                       the edits and the list as they were, and PORT the kit's port.py; ROOM
+                                                       is a folder for the copy, or the copy that an earlier run made there
 
 What an edit puts into specs/ or proofs/ is turned by the scripts that turned the crates: into a copy of OLDER's crates goes,
 beside each such file, the file as the edit makes it, PORT and respell.py run over the copy, and where the two turned files
