@@ -8,10 +8,11 @@ use Rattle.groups.specs.Table.{codes}
 use Rattle.line.specs.Lines.{outside}
 use Rattle.line.specs.declared.LineState.{LineState}
 use Rattle.line.specs.declared.Opening.TheVariants.{Opened}
-use Rattle.listing.specs.Listing.{digits, line_for, mode_by, listing, joined, lines_by_piece}
+use Rattle.listing.specs.Listing.{digits, line_for, listing, joined, lines_by_piece}
 use Rattle.listing.specs.Shown.{value_from, placed_answers, placed_lines}
-use Rattle.listing.specs.Parts.{Fresh, opening_in}
-use Rattle.listing.proofs.Laws.{digits_valued, lines_placed, letters_known, letter_unknown, listing_by_piece, listing_begins, listing_alone, opened_fresh}
+use Rattle.capture.specs.Letters.{Fresh, mode_by, opening_in}
+use Rattle.capture.proofs.Laws.{letters_known, letter_unknown, opened_fresh}
+use Rattle.listing.proofs.Laws.{digits_valued, lines_placed, listing_by_piece, listing_begins, listing_alone}
 
 -- "`H` or `S`", and "`P` begins such a capture" (M-100): these letters begin captures of modes 0, 1 and 2.
 pub letters_exactly : map mode_by (codes "HSP") ≡ some 0 ∷ some 1 ∷ some 2 ∷ []

@@ -1,6 +1,7 @@
 -- The listing of a capture (document 01, "The listing").
 use Rattle.std.specs.Prelude.{◌||◌, List, [], ◌∷◌, ◌++◌, ℕ, ◌+◌, ◌/◌, ◌%◌, eqb, ltb}
 use Rattle.std.proofs.Math.Option.{Option, none, some}
+use Rattle.capture.specs.Letters.{mode_by}
 use Rattle.characters.specs.Answers.{refused, given, pick}
 use Rattle.characters.specs.Wire.{LF, SP}
 use Rattle.groups.specs.Groups.{Group}
@@ -39,10 +40,6 @@ line_for a = digits (number_of_answer a) ++ (also a ++ LF ∷ [])
 unfoldable pub lines_for : List LineAnswer → List ℕ
 lines_for [] = []
 lines_for (a ∷ more) = line_for a ++ lines_for more
-
--- "`H` or `S`", as they stand: mode 0 is historic, mode 1 is standard; "`P` begins" a capture of mode 2 (M-100)
-unfoldable pub mode_by : ℕ → Option ℕ
-mode_by letter = pick (eqb letter 0x48) (some 0) (pick (eqb letter 0x53) (some 1) (pick (eqb letter 0x50) (some 2) none))
 
 -- "Bad capture: `20`"
 abbrev pub bad : List ℕ
