@@ -1,7 +1,6 @@
 -- Which letters begin a capture, and what line they open.
-use Rattle.std.specs.Prelude.{◌≡◌, refl, Bool, true, false, [], ◌∷◌, map, ℕ}
+use Rattle.std.specs.Prelude.{◌≡◌, refl, Bool, true, false, [], ◌∷◌, map, ℕ, Option, Some, None}
 use Rattle.std.proofs.Common.{sym, ne_eqb, arith}
-use Rattle.std.proofs.Math.Option.{Option, none, some}
 use Rattle.characters.specs.Answers.{pick}
 use Rattle.groups.specs.Modes.{is_mode}
 use Rattle.groups.specs.Table.{codes}
@@ -10,11 +9,10 @@ use Rattle.line.proofs.Views.{opened_view}
 use Rattle.line.proofs.Laws.Openings.{opening_known, opening_unknown}
 use Rattle.line.specs.declared.LineState.{LineState}
 use Rattle.line.specs.declared.rules.Phase.TheVariants.{Outside}
-use Rattle.line.specs.declared.Opening.TheVariants.{Opened}
 use Rattle.capture.specs.Letters.{Fresh, mode_by, opening_in}
 
 -- a line that was opened is in its mode, and outside
-opened_in : (mode : ℕ) (l : LineState) (known : Bool) → is_mode mode ≡ known → opening_of mode ≡ Opened l
+opened_in : (mode : ℕ) (l : LineState) (known : Bool) → is_mode mode ≡ known → opening_of mode ≡ Some l
     → Fresh mode l
 opened_in mode l true k e =
     let same : state_of mode 0 Outside 0 ≡ l = cc (opening_known mode k) in
@@ -23,19 +21,19 @@ opened_in mode l false k e =
     let z : ◌≡◌ {A = ℕ} 0 1 = cc (opening_unknown mode k) in absurd (omega arith)
 
 -- so is the line that a letter opens
-fresh_in : (o : Option ℕ) (l : LineState) → opening_in o ≡ Opened l → (mode : ℕ) × (o ≡ some mode) × Fresh mode l
-fresh_in none l e = let z : ◌≡◌ {A = ℕ} 0 1 = cc in absurd (omega arith)
-fresh_in (some mode) l e = (mode, refl, opened_in mode l (is_mode mode) refl e)
+fresh_in : (o : Option ℕ) (l : LineState) → opening_in o ≡ Some l → (mode : ℕ) × (o ≡ Some mode) × Fresh mode l
+fresh_in None l e = let z : ◌≡◌ {A = ℕ} 0 1 = cc in absurd (omega arith)
+fresh_in (Some mode) l e = (mode, refl, opened_in mode l (is_mode mode) refl e)
 
-pub opened_fresh : (letter : ℕ) (l : LineState) → opening_in (mode_by letter) ≡ Opened l
-    → (mode : ℕ) × (mode_by letter ≡ some mode) × Fresh mode l
+pub opened_fresh : (letter : ℕ) (l : LineState) → opening_in (mode_by letter) ≡ Some l
+    → (mode : ℕ) × (mode_by letter ≡ Some mode) × Fresh mode l
 opened_fresh letter = fresh_in (mode_by letter)
 
 -- which letters they are
-pub letters_known : map mode_by (codes "HSP") ≡ some 0 ∷ some 1 ∷ some 2 ∷ []
+pub letters_known : map mode_by (codes "HSP") ≡ Some 0 ∷ Some 1 ∷ Some 2 ∷ []
 unfolding mode_by pick
 letters_known = refl
 
-pub letter_unknown : (letter : ℕ) → (letter ≡ 0x48 → ⊥) → (letter ≡ 0x53 → ⊥) → (letter ≡ 0x50 → ⊥) → mode_by letter ≡ none
+pub letter_unknown : (letter : ℕ) → (letter ≡ 0x48 → ⊥) → (letter ≡ 0x53 → ⊥) → (letter ≡ 0x50 → ⊥) → mode_by letter ≡ None
 unfolding mode_by pick
 letter_unknown letter h s p = rw (ne_eqb letter 0x48 h, ne_eqb letter 0x53 s, ne_eqb letter 0x50 p)

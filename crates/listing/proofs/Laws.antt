@@ -1,7 +1,6 @@
 -- The laws behind the promises. Nobody has to believe them: they are checked.
-use Rattle.std.specs.Prelude.{◌≡◌, refl, true, ◌&&◌, ◌||◌, List, [], ◌∷◌, ◌++◌, map, ℕ, ◌+◌, ◌/◌, ◌%◌, ◌≤◌, ◌<◌, T, eqb, leb, ltb, length, get_or}
+use Rattle.std.specs.Prelude.{◌≡◌, refl, true, ◌&&◌, ◌||◌, List, [], ◌∷◌, ◌++◌, map, ℕ, ◌+◌, ◌/◌, ◌%◌, ◌≤◌, ◌<◌, T, eqb, leb, ltb, length, get_or, Option, Some, None}
 use Rattle.std.proofs.Common.{sym, ap, ◌∙◌, append_assoc, append-nil, arith, le→leb, lt→ltb, ltb→lt, nltb→le}
-use Rattle.std.proofs.Math.Option.{Option, none, some}
 use Rattle.std.proofs.Math.Facts.{yes_and}
 use Rattle.characters.specs.Answers.{every, pick, by_pick}
 use Rattle.groups.specs.Kinds.{within}
@@ -41,20 +40,20 @@ pieces_join mode s (piece ∷ more) =
     ∙ ap (λ (text : List ℕ). lines_for (answers mode s piece) ++ text) (pieces_join mode (after mode s piece) more)
 
 -- so has a capture behind its letter
-pub listing_by_piece : (letter mode : ℕ) → mode_by letter ≡ some mode → (pieces : List (List ℕ))
+pub listing_by_piece : (letter mode : ℕ) → mode_by letter ≡ Some mode → (pieces : List (List ℕ))
     → listing (letter ∷ joined pieces) ≡ lines_by_piece mode outside pieces
 unfolding listing
 listing_by_piece letter mode e pieces = rw e (pieces_join mode outside pieces)
 
 -- and a letter alone has none
-pub listing_alone : (letter mode : ℕ) → mode_by letter ≡ some mode → listing (letter ∷ []) ≡ []
+pub listing_alone : (letter mode : ℕ) → mode_by letter ≡ Some mode → listing (letter ∷ []) ≡ []
 unfolding listing
 listing_alone letter mode e = rw e (lines_none mode outside)
 
 -- what begins a capture prints what begins its listing
 begins_in : (o : Option ℕ) (a b : List ℕ) → (more : List ℕ) × (listing_in o (a ++ b) ≡ listing_in o a ++ more)
-begins_in none a b = ([], sym (append-nil _))
-begins_in (some mode) a b = (_, lines_of_both mode outside a b)
+begins_in None a b = ([], sym (append-nil _))
+begins_in (Some mode) a b = (_, lines_of_both mode outside a b)
 
 pub listing_begins : (a b : List ℕ) → 1 ≤ length a → (more : List ℕ) × (listing (a ++ b) ≡ listing a ++ more)
 unfolding listing

@@ -1,6 +1,5 @@
 -- The listing of a capture (document 01, "The listing").
-use Rattle.std.specs.Prelude.{◌||◌, List, [], ◌∷◌, ◌++◌, ℕ, ◌+◌, ◌/◌, ◌%◌, eqb, ltb}
-use Rattle.std.proofs.Math.Option.{Option, none, some}
+use Rattle.std.specs.Prelude.{◌||◌, List, [], ◌∷◌, ◌++◌, ℕ, ◌+◌, ◌/◌, ◌%◌, eqb, ltb, Option, Some, None}
 use Rattle.capture.specs.Letters.{mode_by}
 use Rattle.characters.specs.Answers.{refused, given, pick}
 use Rattle.characters.specs.Wire.{LF, SP}
@@ -46,8 +45,8 @@ abbrev pub bad : List ℕ
 bad = digits 20 ++ LF ∷ []
 
 abbrev pub listing_in : Option ℕ → List ℕ → List ℕ
-listing_in none bytes = bad
-listing_in (some mode) bytes = lines_for (answers mode outside bytes)
+listing_in None bytes = bad
+listing_in (Some mode) bytes = lines_for (answers mode outside bytes)
 
 -- all that is written for all that is read; bad is a "capture empty or not begun by H, S or P"
 unfoldable pub listing : List ℕ → List ℕ

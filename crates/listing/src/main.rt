@@ -12,7 +12,7 @@ mod text;
 
 ghost use Rattle.listing.specs.Parts.{Lists, Goes};
 
-use line::{LineState, Opening};
+use line::LineState;
 use streams::{Stopped, Streams};
 use text::Text;
 
@@ -75,8 +75,8 @@ fn list_all(streams: &Streams, opened: LineState) -> Result<(), Stopped> {
 // An input that can't be read is no capture, not even an empty one: nothing is listed of it.
 fn list(streams: &Streams) -> Result<(), Stopped> {
     match capture::open(streams)? {
-        Opening::Opened(line) => list_all(streams, line),
-        Opening::ModeUnknown => streams.print(b"20\n"),
+        Some(line) => list_all(streams, line),
+        None => streams.print(b"20\n"),
     }
 }
 

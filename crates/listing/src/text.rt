@@ -9,7 +9,8 @@ ghost use Rattle.listing.specs.Parts.{lines_heard};
 
 use arrayvec::ArrayVec;
 use characters::{LF, SP};
-use line::{Fields, Heard};
+use groups::Fields;
+use line::Heard;
 
 // Room for a line: the fields of a group have no more than the 128 bytes of its content, and a number of one digit, three
 // spaces, a `-` and the LF are 6 more.

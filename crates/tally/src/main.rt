@@ -8,7 +8,7 @@
 // loop by it. It is proved to be safe and to end.
 #![tactic(auto)]
 
-use line::{LineState, Opening};
+use line::LineState;
 use std::fmt;
 use std::fmt::Write;
 use streams::{Page, Stopped, Streams};
@@ -71,12 +71,12 @@ fn show_all(streams: Streams, counts: &Counts) -> Result<(), Stopped> {
 // more is over, and what came of it counts.
 fn tally(streams: Streams) -> Result<(), Stopped> {
     match capture::open(&streams)? {
-        Opening::Opened(line) => {
+        Some(line) => {
             let mut counts = [0; 15];
             let _ = count_all(&streams, line, &mut counts);
             show_all(streams, &counts)
         }
-        Opening::ModeUnknown => streams.print(b"20\n"),
+        None => streams.print(b"20\n"),
     }
 }
 
