@@ -1,6 +1,6 @@
 -- What is promised of the listing: only the statements need to be read. That the program writes the text that
 -- `list_next` lays, and nothing else, is no statement: no contract can speak of what is read or written.
-use Rattle.std.specs.Prelude.{◌≡◌, List, [], ◌∷◌, ◌++◌, map, ◌||◌, ℕ, ◌≤◌, ◌<◌, T, eqb, ltb, length, get_or, Option, Some, None}
+use Rattle.std.specs.Prelude.{◌≡◌, List, [], ◌∷◌, ◌++◌, map, ◌||◌, ℕ, ◌≤◌, ◌<◌, T, eqb, ltb, length, get_or, Some, None}
 use Rattle.characters.specs.Answers.{every}
 use Rattle.groups.specs.Kinds.{within}
 use Rattle.groups.specs.Table.{codes}
