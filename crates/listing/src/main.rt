@@ -74,7 +74,9 @@ fn list_all(streams: &Streams, opened: LineState) -> Result<(), Stopped> {
 
 // An input that can't be read is no capture, not even an empty one: nothing is listed of it.
 fn list(streams: &Streams) -> Result<(), Stopped> {
-    match capture::open(streams)? {
+    let mut first = [0; 1];
+    let count = streams.read(&mut first)?;
+    match capture::open(&first[..count]) {
         Some(line) => list_all(streams, line),
         None => streams.print(b"20\n"),
     }

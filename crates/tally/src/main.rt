@@ -70,7 +70,9 @@ fn show_all(streams: Streams, counts: &Counts) -> Result<(), Stopped> {
 // An input that can't be read is no capture, not even an empty one: nothing is counted of it. One that can't be read any
 // more is over, and what came of it counts.
 fn tally(streams: Streams) -> Result<(), Stopped> {
-    match capture::open(&streams)? {
+    let mut first = [0; 1];
+    let count = streams.read(&mut first)?;
+    match capture::open(&first[..count]) {
         Some(line) => {
             let mut counts = [0; 15];
             let _ = count_all(&streams, line, &mut counts);
