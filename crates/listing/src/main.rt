@@ -10,64 +10,68 @@
 
 mod text;
 
+ghost use Rattle.std.specs.Prelude.{OnOk};
 ghost use Rattle.listing.specs.Parts.{Lists, Goes};
 
 use line::LineState;
 use streams::{Stopped, Streams};
 use text::Text;
 
-// What came of a stretch of bytes: the line afterwards, how many bytes it took, and the text of its answer.
+// A line that is listed: what it keeps, and the bytes of its group's content.
+#[derive(Drop)]
+struct Ear {
+    line: LineState,
+    content: [u8; 128],
+}
+
+// What came of a stretch of bytes: how many the line took, and the text of its answer.
 #[derive(Drop)]
 struct Listed {
-    line: LineState,
     count: usize,
     text: Text,
 }
 
 // Takes bytes up to one that gives an answer, and lays its line.
-fn list_next(line: LineState, content: &mut [u8; 128], bytes: &[u8]) -> Listed
-    ensures { Lists line content.old bytes.now result content.new }
+fn list_next(ear: &mut Ear, bytes: &[u8]) -> Listed
+    ensures { Lists ear.old bytes.now result ear.new }
 {
-    let taken = line::feed(line, content, bytes);
+    let taken = line::feed(ear.line, &mut ear.content, bytes);
+    ear.line = taken.line;
     Listed {
-        line: taken.line,
         count: taken.count,
-        text: text::line_heard(taken.heard, content),
+        text: text::line_heard(taken.heard, &ear.content),
     }
 }
 
 // Lists a piece of the capture. Each line is written as soon as it is known, and whole.
-fn list_piece(
-    streams: &Streams,
-    opened: LineState,
-    content: &mut [u8; 128],
-    piece: &[u8],
-) -> Result<LineState, Stopped>
-    ensures { Goes opened content.old piece.now result content.new }
+fn list_piece(streams: &Streams, ear: &mut Ear, piece: &[u8]) -> Result<(), Stopped>
+    ensures { OnOk result (Goes ear.old piece.now ear.new) }
 {
-    let mut line = opened;
     let mut rest = piece;
     while !rest.is_empty() {
-        let listed = list_next(line, content, rest);
+        let listed = list_next(ear, rest);
         streams.print(listed.text.as_slice())?;
-        line = listed.line;
         rest = &rest[listed.count..];
     }
-    Ok(line)
+    Ok(())
 }
 
 // Lists all that comes, for a line that was just opened. A proved loop has to end, and nothing says that an input does:
 // the loop counts to a number that no run reaches.
+// Kept beside the like loops of `tally` and `wire`: a shared one would have to require that its closure may be called, and
+// no public function here has a `requires`.
 fn list_all(streams: &Streams, opened: LineState) -> Result<(), Stopped> {
-    let mut line = opened;
-    let mut content = [0; 128];
+    let mut ear = Ear {
+        line: opened,
+        content: [0; 128],
+    };
     let mut piece = io::buffer();
     for _ in 0..u64::MAX {
         let count = streams.read(&mut piece)?;
         if count == 0 {
             break;
         }
-        line = list_piece(streams, line, &mut content, &piece[..count])?;
+        list_piece(streams, &mut ear, &piece[..count])?;
     }
     Ok(())
 }

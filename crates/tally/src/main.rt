@@ -17,6 +17,7 @@ use streams::{Page, Stopped, Streams};
 type Counts = [u64; 15];
 
 // Counts the answers to a piece of the capture. There is room for every number; that it is asked spares the proof.
+// Line and content are kept apart: a struct of both, as `listing` has, takes 3 to 5 % more instructions (bench/run).
 fn count_piece(
     opened: LineState,
     content: &mut [u8; 128],
@@ -38,7 +39,7 @@ fn count_piece(
 }
 
 // Counts the answers to all that comes, for a line that was just opened. A proved loop has to end, and nothing says that
-// an input does: the loop counts to a number that no run reaches.
+// an input does: the loop counts to a number that no run reaches. Kept beside the like loop of `listing`, which says why.
 fn count_all(streams: &Streams, opened: LineState, counts: &mut Counts) -> Result<(), Stopped> {
     let mut line = opened;
     let mut content = [0; 128];
