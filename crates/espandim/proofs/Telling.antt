@@ -2,6 +2,7 @@
 use mathlib.Core.Path.{◌≡◌, ◌∙◌, sym, ap}
 use mathlib.Core.List.{List}
 use Prim.Native.Nat.{ℕ, ◌≤◌}
+use Rattle.std.specs.Prelude.{Result}
 use Rattle.characters.specs.Answers.{Answer, refused}
 use Rattle.groups.specs.Judging.{shown}
 use Rattle.groups.specs.Place.{judgement}
@@ -18,14 +19,14 @@ use Rattle.station.specs.Memory.{Memory, station_in}
 use Rattle.station.specs.CallContracts.{called_as, Serves as Served}
 use Rattle.station.specs.History.{Call, next, gets}
 use Rattle.station.proofs.Laws.Refusals.{serves_round}
-use Rattle.station.specs.declared.Reply.{Reply}
-use Rattle.station.specs.declared.RoundTold.{RoundTold}
+use Rattle.station.specs.declared.Refusal as reasons
+use Rattle.station.specs.Rounds.{counts_of}
 use Rattle.station.specs.Records.{Called, Rounded}
 use Rattle.espandim.specs.Calls.{Calls, Serves}
 use Rattle.espandim.specs.OneGroup.{stretches_of, Judges, Writes}
 
 -- an opening or a delivery tells in C the number of its reply, and leaves the same station
-pub call_told : (m n : Memory) (reply : Reply) (number : ℕ) → number ≡ station.number_of reply → (c : Call) (a : Called)
+pub call_told : (m n : Memory) (reply : Result (Unit {0}) reasons.Refusal) (number : ℕ) → number ≡ station.number_of reply → (c : Call) (a : Called)
     → (next (station_in m) c ≡ a.station) × ((gets (station_in m) c).number ≡ station.number_of a.reply)
     → called_as (station_in n) reply ≡ a → Calls m c number n
 call_told m n reply number h c a (station_is, number_is) e =
@@ -34,18 +35,19 @@ call_told m n reply number h c a (station_is, number_is) e =
       leaves = ap (λ (d : Called). d.station) e ∙ sym station_is;
     }
 
-pub round_told : (m n : Memory) (sheet sheet' : List ℕ) (told : RoundTold) (number : ℕ)
-    → Served m sheet told n sheet' → number ≡ station.number_of told.reply
-    → Serves m sheet number n sheet' told.counts
-round_told m n sheet sheet' told number d h =
+-- and a round the counts of its turns, or zeros
+pub round_told : (m n : Memory) (sheet sheet' counts : List ℕ) (told : Result (List ℕ) reasons.Refusal) (number : ℕ)
+    → Served m sheet told n sheet' → number ≡ station.number_of told → counts ≡ counts_of told
+    → Serves m sheet number n sheet' counts
+round_told m n sheet sheet' counts told number d h k =
     let (station_is, number_is, sheet_is, counts_are) = serves_round (station_in m) sheet in
     record {
       calls = record {
-        returns = h ∙ ap (λ (r : Rounded). station.number_of r.reply) d.results ∙ sym number_is;
+        returns = h ∙ ap (λ (r : Rounded). station.number_of r.told) d.results ∙ sym number_is;
         leaves = ap (λ (r : Rounded). r.station) d.results ∙ sym station_is;
       };
       sheet_is = d.leaves ∙ sym sheet_is;
-      counts_are = ap (λ (r : Rounded). r.counts) d.results ∙ sym counts_are;
+      counts_are = k ∙ ap (λ (r : Rounded). counts_of r.told) d.results ∙ sym counts_are;
     }
 
 pub judges : (j k : Judgement) (n : ℕ) → j ≡ k → n ≡ number_of j.judged.verdict

@@ -1,6 +1,7 @@
 -- The ways through the functions of one line's inbox, over plain variables.
 use mathlib.Core.Path.{◌≡◌, refl, ap, ap₂, ◌∙◌}
 use mathlib.Core.List.{List, [], ◌++◌}
+use Rattle.std.specs.Prelude.{Result, Ok, Err}
 use Prim.Native.Nat.{ℕ, ◌+◌, ◌-◌, ◌≤◌, ◌<◌}
 use native.Mathlib.Omega.{arith}
 use lib.ListN.{length, take, drop, get_or, set, length-take, length-drop}
@@ -14,8 +15,6 @@ use Rattle.station.specs.Parts.{line_left}
 use Rattle.station.specs.Records.{StationLine, Station}
 use Rattle.station.specs.declared.Refusal.{Refusal}
 use Rattle.station.specs.declared.Refusal.TheVariants.{NoRoom, LineClosed}
-use Rattle.station.specs.declared.Reply.{Reply}
-use Rattle.station.specs.declared.Reply.TheVariants.{Done, Refused}
 use Rattle.station.proofs.Copying.{paste_over}
 use Rattle.station.specs.Memory.{of_rows, line_from, lines_from, station_in, Sized}
 use Rattle.station.proofs.Laws.Memory.{row_inside, line_at_lem, line_set}
@@ -68,14 +67,14 @@ laid_is inbox bytes x y from to long h i j p q =
     q ∙ rw z (paste_over w inbox bytes (to - from) k (omega arith))
 
 -- a refused delivery, with the rows that it leaves
-pub stopped : (marks places content inbox places' inbox' bytes : List ℕ) (reply reply' : Reply)
+pub stopped : (marks places content inbox places' inbox' bytes : List ℕ) (reply reply' : Result (Unit {0}) Refusal)
     → Fills (line_from marks places content inbox) bytes reply (line_from marks places content inbox)
     → (reply' ≡ reply) × (places' ≡ places) × (inbox' ≡ inbox)
     → Fills (line_from marks places content inbox) bytes reply' (line_from marks places' content inbox')
 stopped marks places content inbox places' inbox' bytes reply reply' f (e, h, k) = rw (e, h, k) f
 
 -- 17
-pub fill_closed : (l : StationLine) (bytes : List ℕ) → l.opened ≡ 0 → Fills l bytes (Refused LineClosed) l
+pub fill_closed : (l : StationLine) (bytes : List ℕ) → l.opened ≡ 0 → Fills l bytes (Err LineClosed) l
 unfolding filling need
 fill_closed l bytes h =
     let e = eq-eqb l.opened 0 h in
@@ -83,7 +82,7 @@ fill_closed l bytes h =
 
 module _ (l : StationLine) (from to : ℕ) (w : Waits l from to) (h : l.opened ≡ 0 → ⊥) (bytes : List ℕ) where
   -- 15
-  pub fill_over : 256 - (to - from) < length bytes → Fills l bytes (Refused NoRoom) l
+  pub fill_over : 256 - (to - from) < length bytes → Fills l bytes (Err NoRoom) l
   unfolding filling need
   fill_over k =
       let e = ne_eqb l.opened 0 h in
@@ -92,7 +91,7 @@ module _ (l : StationLine) (from to : ℕ) (w : Waits l from to) (h : l.opened �
 
   pub fill_done : length bytes ≤ 256 - (to - from) → (inbox : List ℕ)
       → inbox ≡ over (take (to - from) (drop from l.inbox) ++ bytes) l.inbox
-      → Fills l bytes Done
+      → Fills l bytes (Ok tt)
       (record {
         opened = l.opened;
         state = l.state;
@@ -112,7 +111,7 @@ module _ (l : StationLine) (from to : ℕ) (w : Waits l from to) (h : l.opened �
 module _ (ms ps cs bs : List (List ℕ)) (z : Sized (of_rows ms ps cs bs))
     (i : ℕ) (bytes : List ℕ) where
   -- the rows of a line are stored, and with them the line
-  pub delivered : (reply : Reply) (p b : List ℕ) → i < 8
+  pub delivered : (reply : Result (Unit {0}) Refusal) (p b : List ℕ) → i < 8
       → Fills (line_from (get_or ms i []) (get_or ps i []) (get_or cs i []) (get_or bs i [])) bytes reply
       (line_from (get_or ms i []) p (get_or cs i []) b)
       → Delivers (of_rows ms ps cs bs) i bytes reply
@@ -135,4 +134,4 @@ module _ (ms ps cs bs : List (List ℕ)) (z : Sized (of_rows ms ps cs bs))
       left : (s : Station) (l : StationLine) (a : Answer Refusal StationLine) → with_line s i l ≡ s
           → called_as (with_line s i (line_left l a)) (reply_to a) ≡ called s (filled_at s i a)
       left s l (given next) e = refl
-      left s l (refused refusal) e = ap (λ (t : Station). called_as t (Refused refusal)) e
+      left s l (refused refusal) e = ap (λ (t : Station). called_as t (Err refusal)) e

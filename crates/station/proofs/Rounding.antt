@@ -1,9 +1,10 @@
 -- The ways through `round`, over plain variables.
 use mathlib.Core.Path.{◌≡◌, refl, ap, ap₂, ◌∙◌}
+use Rattle.std.specs.Prelude.{Ok, Err}
 use mathlib.Core.List.{List, [], ◌∷◌, ◌++◌, append_assoc, map}
 use Prim.Native.Nat.{ℕ, ◌+◌, ◌≤◌, ◌<◌}
 use native.Mathlib.Omega.{arith}
-use lib.ListN.{length, take, drop, replicate, length-append}
+use lib.ListN.{length, take, drop, length-append}
 use lib.Seq.{paste, length-take-le, drop_at}
 use borrow.Author.Tests.{le-leb, lt-leb}
 use Rattle.characters.specs.Answers.{need}
@@ -13,12 +14,11 @@ use Rattle.station.specs.Rounds.{turns, tells, told_of, Round, round}
 use Rattle.station.specs.Parts.{ServesLines}
 use Rattle.station.specs.Records.{StationLine, Station, Turned}
 use Rattle.station.specs.declared.Refusal.TheVariants.{SheetShort}
-use Rattle.station.specs.declared.Reply.TheVariants.{Done, Refused}
 use Rattle.station.proofs.Copying.{paste_over, paste_is_over}
 
 -- 18
 pub round_short : (s : Station) (sheet : List ℕ) → length sheet < 1096
-    → Round (round s sheet) (record { station = s; counts = replicate 8 0; reply = Refused SheetShort }) sheet
+    → Round (round s sheet) (record { station = s; told = Err SheetShort }) sheet
 unfolding turns need
 round_short s sheet h = rw (lt-leb 1096 (length sheet) h) (record { results = refl; leaves = refl })
 
@@ -53,7 +53,7 @@ counts_told (t ∷ ts) = ap (λ (r : List ℕ). t.count ∷ r) (counts_told ts)
 pub round_done : (s : Station) (ls : List StationLine) (sheet counts offsets x y z : List ℕ) → 1096 ≤ length sheet
     → length counts ≡ 8 → length offsets ≡ 16 → ServesLines s.lines sheet ls counts offsets x
     → y ≡ paste x 0 counts (length counts) → z ≡ paste y 8 offsets (length offsets)
-    → Round (round s sheet) (record { station = record { lines = ls }; counts = counts; reply = Done }) z
+    → Round (round s sheet) (record { station = record { lines = ls }; told = Ok counts }) z
 unfolding turns need sheet_of
 round_done s ls sheet counts offsets x y z h n m e p q =
     let k : z ≡ paste (paste x 0 counts (length counts)) 8 offsets (length offsets) = rw p at q in
@@ -61,7 +61,7 @@ round_done s ls sheet counts offsets x y z h n m e p q =
     rw (le-leb 1096 (length sheet) h)
     (record {
       results =
-          ap₂ (λ (l : List StationLine) (c : List ℕ). record { station = record { lines = l }; counts = c; reply = Done })
+          ap₂ (λ (l : List StationLine) (c : List ℕ). record { station = record { lines = l }; told = Ok c })
           e.lines_are e.counts_are;
       leaves =
           k ∙ rw e.sheet_is (w ∙ rw (e.counts_are, e.offsets_are, counts_told (map turning s.lines)));

@@ -1,5 +1,5 @@
 -- What the parts of the code hand to each other, by the station's own definitions.
-use Rattle.std.specs.Prelude.{◌≡◌, List, ◌∷◌, ◌++◌, map, ℕ, ◌+◌, ◌-◌, ◌%◌, ◌≤◌, ltb, length, take, drop}
+use Rattle.std.specs.Prelude.{◌≡◌, List, ◌∷◌, ◌++◌, map, ℕ, ◌+◌, ◌-◌, ◌%◌, ◌≤◌, ltb, length, take, drop, Result, Ok, Err}
 use Rattle.std.proofs.Math.Seq.{paste}
 use Rattle.characters.specs.Answers.{Answer, refused, given, pick}
 use Rattle.groups.specs.declared.Stretch.{Stretch}
@@ -17,8 +17,6 @@ use Rattle.station.specs.Rounds.{tells}
 use Rattle.station.specs.Memory.{line_from}
 use Rattle.station.specs.Records.{StationLine, Turned}
 use Rattle.station.specs.declared.Refusal.{Refusal}
-use Rattle.station.specs.declared.Reply.{Reply}
-use Rattle.station.specs.declared.Reply.TheVariants.{Done, Refused}
 
 -- ---- Inboxes
 
@@ -42,9 +40,9 @@ OpensRows marks places state marks' places' =
     → line_from marks' places' content inbox ≡ opened_as (line_from marks places content inbox) state
 
 -- what is told of a call for one line
-abbrev pub reply_to : Answer Refusal StationLine → Reply
-reply_to (given l) = Done
-reply_to (refused refusal) = Refused refusal
+abbrev pub reply_to : Answer Refusal StationLine → Result (Unit {0}) Refusal
+reply_to (given l) = Ok tt
+reply_to (refused refusal) = Err refusal
 
 -- the line after a call for it, which a refusal leaves as it was
 abbrev pub line_left : StationLine → Answer Refusal StationLine → StationLine
@@ -52,7 +50,7 @@ line_left l (given next) = next
 line_left l (refused refusal) = l
 
 -- a delivery to a line: the reply, and the line afterwards
-pub record Fills (l : StationLine) (bytes : List ℕ) (reply : Reply) (after : StationLine) : Type 0 where
+pub record Fills (l : StationLine) (bytes : List ℕ) (reply : Result (Unit {0}) Refusal) (after : StationLine) : Type 0 where
   pub reply_is : reply ≡ reply_to (filling l bytes)
   pub line_is : after ≡ line_left l (filling l bytes)
 

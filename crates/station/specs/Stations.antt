@@ -1,6 +1,6 @@
 -- The station's openings and deliveries (document 01, "The station"): the next station, or a refusal, which changes
 -- nothing.
-use Rattle.std.specs.Prelude.{List, [], ℕ, ltb, get_or, set, replicate}
+use Rattle.std.specs.Prelude.{List, [], ℕ, ltb, get_or, set, replicate, Ok, Err}
 use Rattle.characters.specs.Answers.{Answer, refused, given, need}
 use Rattle.line.specs.State.{opening_of}
 use Rattle.line.specs.declared.Opening.{Opening}
@@ -9,7 +9,6 @@ use Rattle.station.specs.Lines.{opened_as, filling}
 use Rattle.station.specs.Records.{StationLine, Station, Called}
 use Rattle.station.specs.declared.Refusal.{Refusal}
 use Rattle.station.specs.declared.Refusal.TheVariants.{LineUnknown, ModeUnknown}
-use Rattle.station.specs.declared.Reply.TheVariants.{Done, Refused}
 
 -- a line of zeros, with the bytes that it keeps
 abbrev pub zero_line : List ℕ → List ℕ → StationLine
@@ -36,8 +35,8 @@ with_line s i l = record { lines = set s.lines i l }
 
 -- what a call hands back: the next station, or the station as it was and why
 abbrev pub called : Station → Answer Refusal Station → Called
-called s (given next) = record { station = next; reply = Done }
-called s (refused refusal) = record { station = s; reply = Refused refusal }
+called s (given next) = record { station = next; reply = Ok tt }
+called s (refused refusal) = record { station = s; reply = Err refusal }
 
 -- the opening of line i, by what the line itself makes of the mode
 abbrev pub opening_by : Station → ℕ → Opening → Answer Refusal Station

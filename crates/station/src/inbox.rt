@@ -1,10 +1,10 @@
 // A line's inbox: deliveries.
-ghost use Rattle.std.specs.Prelude.{◌≡◌, ◌++◌, ◌+◌, ◌-◌, ◌≤◌, length, take, drop};
+ghost use Rattle.std.specs.Prelude.{◌≡◌, ◌++◌, ◌+◌, ◌-◌, ◌≤◌, length, take, drop, Err};
 ghost use Rattle.station.specs.Lines.{over};
 ghost use Rattle.station.specs.Memory.{rows_behind};
 ghost use Rattle.station.specs.Parts.{WaitsBy, OpensRows, Fills};
 
-use crate::{Refusal, Reply, copy, known};
+use crate::{Refusal, copy, known};
 use line::LineState;
 
 // Where the waiting bytes lie: from place `from` up to `to`.
@@ -59,10 +59,10 @@ fn lay(inbox: &mut [u8; 256], from: usize, to: usize, bytes: &[u8])
 }
 
 // A refused delivery: what a delivery changes comes along so that the contract can say that it stays as it was.
-fn stop(refusal: Refusal, places: &mut [u16; 4], inbox: &mut [u8; 256]) -> Reply
-    ensures { (result ≡ Reply.Refused refusal) × (places.new ≡ places.old) × (inbox.new ≡ inbox.old) }
+fn stop(refusal: Refusal, places: &mut [u16; 4], inbox: &mut [u8; 256]) -> Result<(), Refusal>
+    ensures { (result ≡ Err refusal) × (places.new ≡ places.old) × (inbox.new ≡ inbox.old) }
 {
-    Reply::Refused(refusal)
+    Err(refusal)
 }
 
 // Adds bytes to the inbox of a line, all of them or none.
@@ -72,7 +72,7 @@ pub(crate) fn fill(
     content: &[u8; 128],
     inbox: &mut [u8; 256],
     bytes: &[u8],
-) -> Reply
+) -> Result<(), Refusal>
     ensures { Fills (rows_behind marks.now places.old content.now inbox.old) bytes.now result
         (rows_behind marks.now places.new content.now inbox.new) }
 {
@@ -92,5 +92,5 @@ pub(crate) fn fill(
     lay(inbox, from, to, bytes);
     let waits = (count + bytes.len()) as u16;
     *places = [length, 0, waits, frame];
-    Reply::Done
+    Ok(())
 }

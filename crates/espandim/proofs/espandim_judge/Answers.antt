@@ -1,6 +1,10 @@
 -- The number of the verdict, and the stretches in the lent numbers.
+use Rattle.espandim.proofs.Bytes.{judgement_byte}
 use Rattle.espandim.proofs.Telling.{judges}
+use Rattle.std.proofs.Common.{◌∙◌}
 use Rattle.espandim.proofs.espandim_judge.Goals as goal
 
 pub returns : goal.returns
-returns c = judges c.judged-judgement.result _ _ c.judged-judgement.ensures c.number_of.ensures
+returns c =
+    judges c.judge-judgement.result _ _
+    (c.judge-judgement.ensures ∙ judgement_byte c.args.mode _ c.byte_of.ensures c.args.content.now) (c.from.ensures ∙ c.number_of.ensures)
