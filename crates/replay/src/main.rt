@@ -22,7 +22,7 @@ mod input;
 
 use hex::Hex;
 use input::Input;
-use station::{Contents, Inboxes, Marks, Places, Reply, RoundTold};
+use station::{Contents, Inboxes, Marks, Places, Refusal};
 use std::fmt;
 use std::fmt::Write;
 use streams::{Page, Stopped, Streams};
@@ -63,7 +63,7 @@ impl Station {
         }
     }
 
-    fn open(&mut self, line: u8, mode: u8) -> Reply {
+    fn open(&mut self, line: u8, mode: u8) -> Result<(), Refusal> {
         station::open(
             &mut self.marks,
             &mut self.places,
@@ -74,7 +74,7 @@ impl Station {
         )
     }
 
-    fn deliver(&mut self, line: u8, bytes: &[u8]) -> Reply {
+    fn deliver(&mut self, line: u8, bytes: &[u8]) -> Result<(), Refusal> {
         station::deliver(
             &self.marks,
             &mut self.places,
@@ -85,7 +85,7 @@ impl Station {
         )
     }
 
-    fn round(&mut self, sheet: &mut [u8]) -> RoundTold {
+    fn round(&mut self, sheet: &mut [u8]) -> Result<[u8; 8], Refusal> {
         station::round(
             &mut self.marks,
             &mut self.places,
@@ -137,10 +137,9 @@ impl<'a> Desk<'a> {
         let mut room = [self.input.take()?; 4096];
         let sheet = &mut room[..count];
         let told = self.station.round(sheet);
-        let number = station::number_of(told.reply);
-        let counts = told.counts;
+        let number = station::number_of(told);
         write!(self.page, "R {number}")?;
-        for count in counts {
+        for count in told.unwrap_or([0; 8]) {
             write!(self.page, " {count}")?;
         }
         writeln!(self.page, " {}", Hex(sheet))?;
