@@ -15,10 +15,9 @@ use Rattle.station.specs.Lines.{opened_as}
 use Rattle.station.specs.Stations.{line_at, called, opening, delivering}
 use Rattle.station.proofs.Laws.Refusals.{opening_no_line, delivering_no_line}
 use Rattle.station.specs.Records.{StationLine, Station}
-use Rattle.station.specs.Memory.{of_rows, line_from, lines_from, station_in, Sized}
-use Rattle.station.proofs.Laws.Memory.{row_inside, line_at_lem, line_set}
+use Rattle.station.specs.Memory.{of_rows, line_from, lines_from, station_in}
+use Rattle.station.proofs.Laws.Memory.{EightRows, row_inside, line_at_lem, line_set}
 use Rattle.station.specs.CallContracts.{called_as, Opens}
-use Rattle.station.specs.Parts.{OpensRows}
 use Rattle.station.specs.declared.Refusal.TheVariants.{LineUnknown, ModeUnknown}
 
 module _ (s : Station) (i mode : ℕ) (o : Opening) (e : o ≡ opening_of mode) where
@@ -35,12 +34,13 @@ module _ (s : Station) (i mode : ℕ) (o : Opening) (e : o ≡ opening_of mode) 
   open_unknown h k = rw (lt-ltb i 8 h, ← e, k)
 
 -- the two rows of an opened line are stored, and with them the line
-pub rows_opened : (ms ps cs bs : List (List ℕ))
-    → Sized (of_rows ms ps cs bs)
-    → (i mode : ℕ) (o : Opening) → o ≡ opening_of mode → i < 8 → (state : LineState) → o ≡ line.Opened state
-    → (m p : List ℕ) → OpensRows (get_or ms i []) (get_or ps i []) state m p
-    → Opens (of_rows ms ps cs bs) i mode (Ok tt)
-    (of_rows (set ms i m) (set ps i p) cs bs)
+pub rows_opened : (ms ps cs bs : List (List ℕ)) → EightRows (of_rows ms ps cs bs) → (i mode : ℕ) (o : Opening)
+    → o ≡ opening_of mode → i < 8 → (state : LineState) → o ≡ line.Opened state
+    → (m p : List ℕ)
+    → ((content inbox : List ℕ)
+    → line_from m p content inbox
+    ≡ opened_as (line_from (get_or ms i []) (get_or ps i []) content inbox) state)
+    → Opens (of_rows ms ps cs bs) i mode (Ok tt) (of_rows (set ms i m) (set ps i p) cs bs)
 rows_opened ms ps cs bs z i mode o e h state k m p x =
     let s = station_in (of_rows ms ps cs bs) in
     let l = line_from m p (get_or cs i []) (get_or bs i []) in
