@@ -4,12 +4,10 @@ use mathlib.Core.List.{List, [], ◌∷◌, ◌++◌, append_assoc}
 use Prim.Native.Nat.{ℕ, ◌+◌, ◌*◌, ◌/◌, ◌%◌, ◌≤◌, ◌<◌}
 use native.Mathlib.Omega.{arith}
 use native.Mathlib.Nat.{add-zero}
-use lib.ListN.{length, take, drop, length-append}
+use lib.ListN.{length, take, drop, length-take, length-drop, length-append}
 use lib.Seq.{paste, paste-zero}
 use Rattle.std.proofs.lemmas.List.Edits.{length-paste}
-use Rattle.groups.specs.Judging.{part_of}
 use Rattle.groups.specs.declared.Stretch.{Stretch}
-use Rattle.groups.proofs.Laws.Shown.{part_inside, part_fits}
 use Rattle.characters.specs.Answers.{pick}
 use Rattle.line.specs.Numbers.{number_of, number_of_notice, place_of, place_of_notice}
 use Rattle.line.specs.Views.{FieldsInside}
@@ -49,33 +47,29 @@ told_entry : (notice : Notice) (frame : ℕ) (content : List ℕ)
 unfolding entry_heard entry_bytes pick
 told_entry notice frame content = rw (heard_told notice content, notice_number notice, bytes_kept frame)
 
--- a part of the content that lies inside it, and its length
-part_long : (s : Stretch) (content part : List ℕ) → length content ≡ 128 → s.start + s.length ≤ 128
-    → part ≡ part_of s content → (part ≡ take s.length (drop s.start content)) × (length part ≡ s.length)
-part_long s content part long h e =
-    let k : s.start + s.length ≤ length content = omega arith in
-    (e ∙ part_inside s content k, ap length e ∙ (part_fits s content k).0)
+-- a field that lies inside the content has its length
+text_long : (s : Stretch) (content text : List ℕ) → length content ≡ 128 → s.start + s.length ≤ 128
+    → text ≡ take s.length (drop s.start content) → length text ≡ s.length
+text_long s content text long h e = ap length e ∙ simp (length-take, length-drop) (omega arith)
 
 -- the fields of an accepted group
 module _ (fields : Fields) (content label stamp text : List ℕ) (long : length content ≡ 128) (inside : FieldsInside (Accepted fields))
-    (el : label ≡ part_of fields.label content) (es : stamp ≡ part_of fields.stamp content)
-    (et : text ≡ part_of fields.«data» content) where
+    (el : label ≡ take fields.label.length (drop fields.label.start content))
+    (es : stamp ≡ take fields.stamp.length (drop fields.stamp.start content))
+    (et : text ≡ take fields.«data».length (drop fields.«data».start content)) where
   -- have at most 128 bytes
   pub fields_short : length label + (length stamp + length text) ≤ 128
   fields_short =
-      let l = part_long fields.label content label long inside.label_inside el in
-      let s = part_long fields.stamp content stamp long inside.stamp_inside es in
-      let t = part_long fields.«data» content text long inside.data_inside et in
-      omega (arith, l.1, s.1, t.1, inside.all_short)
+      let l = text_long fields.label content label long inside.label_inside el in
+      let s = text_long fields.stamp content stamp long inside.stamp_inside es in
+      let t = text_long fields.«data» content text long inside.data_inside et in
+      omega (arith, inside.all_short)
 
   group_entry_lem : (frame : ℕ)
       → entry_heard (Accepted fields) frame content ≡ group_entry label stamp text (frame % 256) (frame / 256 % 256)
   unfolding entry_heard entry_bytes pick
   group_entry_lem frame =
-      let l = part_long fields.label content label long inside.label_inside el in
-      let s = part_long fields.stamp content stamp long inside.stamp_inside es in
-      let t = part_long fields.«data» content text long inside.data_inside et in
-      rw (heard_accepted fields content long inside, bytes_kept frame, l.0, s.0, t.0)
+      rw (heard_accepted fields content long inside, bytes_kept frame, el, es, et)
 
 -- ---- Putting it
 
@@ -94,8 +88,10 @@ module _ (sheet content : List ℕ) (at : ℕ) (heard : Heard) (frame : ℕ) whe
       (rw (e, told_entry notice frame content) (rw (k, j, ol, oh) at p), omega (arith, p.0))
 
   pub put_accepted : (x : List ℕ) (place low high : ℕ) (fields : Fields) (label stamp text : List ℕ)
-      → heard ≡ Accepted fields → length content ≡ 128 → FieldsInside heard → label ≡ part_of fields.label content
-      → stamp ≡ part_of fields.stamp content → text ≡ part_of fields.«data» content
+      → heard ≡ Accepted fields → length content ≡ 128 → FieldsInside heard
+      → label ≡ take fields.label.length (drop fields.label.start content)
+      → stamp ≡ take fields.stamp.length (drop fields.stamp.start content)
+      → text ≡ take fields.«data».length (drop fields.«data».start content)
       → low ≡ frame % 256 → high ≡ frame / 256 % 256
       → Put at sheet (group_entry label stamp text low high) place x
       → PutShort at sheet (entry_heard heard frame content) place x

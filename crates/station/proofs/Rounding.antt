@@ -51,18 +51,18 @@ counts_told [] = refl
 counts_told (t ∷ ts) = ap (λ (r : List ℕ). t.count ∷ r) (counts_told ts)
 
 -- the counts and the offsets of the turns, laid over the first 24 bytes of the sheet with the entries
-pub serves_done : (ls ls' : List StationLine) (sheet counts offsets x y z after : List ℕ) (at : ℕ) → 1096 ≤ length sheet
+pub serves_done : (ls ls' : List StationLine) (sheet counts offsets x y z : List ℕ) → 1096 ≤ length sheet
     → length counts ≡ 8 → length offsets ≡ 16 → TakesTurns ls sheet ls' counts offsets x
-    → y ≡ paste x 0 counts (length counts) → at ≡ 0 + length counts → z ≡ paste y at offsets (length offsets)
-    → after ≡ z → ServesLines ls sheet ls' counts after
+    → y ≡ paste x 0 counts (length counts) → z ≡ paste y 8 offsets (length offsets)
+    → ServesLines ls sheet ls' counts z
 unfolding sheet_of
-serves_done ls ls' sheet counts offsets x y z after at h n m e p o q r =
-    let k : z ≡ paste (paste x 0 counts (length counts)) 8 offsets (length offsets) = rw (o, n, p) at q in
+serves_done ls ls' sheet counts offsets x y z h n m e p q =
+    let k : z ≡ paste (paste x 0 counts (length counts)) 8 offsets (length offsets) = rw p at q in
     let w = sheet_laid counts offsets (entries (told_by ls)) sheet n m (omega arith) in
     record {
       lines_are = e.lines_are;
       counts_are = e.counts_are;
-      sheet_is = r ∙ k ∙ rw e.sheet_is (w ∙ rw (e.counts_are, e.offsets_are, counts_told (map turning ls)));
+      sheet_is = k ∙ rw e.sheet_is (w ∙ rw (e.counts_are, e.offsets_are, counts_told (map turning ls)));
     }
 
 -- a round that is not refused

@@ -172,6 +172,11 @@ rows_more whole ms ps cs bs counts offsets sheet at i m p c told took offset at'
     (ea.1 ∙ rw (content, x.heard_is, x.frame_is)) e in
     more ∙ rw (rows, w.line_is, x.count_is)
 
+-- so they do with an equal sheet
+pub serves_as : {ls ls' : List StationLine} {sheet counts offsets' after : List ℕ} (last : List ℕ) → after ≡ last
+    → TakesTurns ls sheet ls' counts offsets' last → TakesTurns ls sheet ls' counts offsets' after
+serves_as last e t = rw e t
+
 -- all lines
 pub rows_all : (ms ps cs bs : List (List ℕ)) (sheet : List ℕ) (v : Progress) (i : ℕ) → length ms ≡ 8 → length ps ≡ 8
     → length cs ≡ 8 → length bs ≡ 8 → ((j : ℕ) → j < i → length (get_or cs j []) ≡ 128)

@@ -18,11 +18,9 @@ pub(crate) fn serve(
     ensures { ServesLines (station_in (behind marks.old places.old contents.old inboxes.now)).lines sheet.old
         (station_in (behind marks.new places.new contents.new inboxes.now)).lines result sheet.new }
 {
-    let mut pen = Pen { sheet, at: 24 };
-    let (counts, offsets) = turns(marks, places, contents, inboxes, &mut pen);
-    pen.at = 0;
-    pen.put(&counts);
-    pen.put(&offsets);
+    let (counts, offsets) = turns(marks, places, contents, inboxes, sheet);
+    sheet[..8].copy_from_slice(&counts);
+    sheet[8..24].copy_from_slice(&offsets);
     counts
 }
 
@@ -33,22 +31,22 @@ fn turns(
     places: &mut Places,
     contents: &mut Contents,
     inboxes: &Inboxes,
-    pen: &mut Pen,
+    sheet: &mut [u8],
 ) -> ([u8; 8], [u8; 16])
-    requires { (pen.old.at ≡ 24) × (1096 ≤ length pen.old.sheet.now) }
-    ensures same_sheet { pen.new.sheet.ghost_name ≡ pen.old.sheet.ghost_name }
-    ensures turns { TakesTurns (station_in (behind marks.old places.old contents.old inboxes.now)).lines pen.old.sheet.now
-        (station_in (behind marks.new places.new contents.new inboxes.now)).lines result.0 result.1 pen.new.sheet.now }
+    requires { 1096 ≤ length sheet.old }
+    ensures { TakesTurns (station_in (behind marks.old places.old contents.old inboxes.now)).lines sheet.old
+        (station_in (behind marks.new places.new contents.new inboxes.now)).lines result.0 result.1 sheet.new }
 {
     let mut counts = [0; 8];
     let mut offsets = [0; 16];
+    let mut pen = Pen { sheet, at: 24 };
     for i in 0..8 {
         let told = turn::turn(&mut marks[i], &mut places[i], &mut contents[i], &inboxes[i]);
         let Some(took) = told else {
             continue;
         };
         counts[i] = took.count;
-        let offset = pen.put_entry(took.heard, took.frame, &contents[i]);
+        let offset = pen.put_entry(took.heard, took.frame, contents[i]);
         let [low, high] = offset.to_le_bytes();
         offsets[2 * i] = low;
         offsets[2 * i + 1] = high;

@@ -1,8 +1,8 @@
 -- What is left of the lines decides.
 use Prim.Native.Nat.{◌*◌, ◌+◌}
-use Rattle.std.proofs.Common.{refl, sym, ◌∙◌, arith, length-set}
+use Rattle.std.proofs.Common.{rules, refl, sym, ◌∙◌, arith, length-set}
 use Rattle.station.proofs.Entries.{put_long}
-use Rattle.station.proofs.RowsServing.{rows_to_come, row_long, heard_inside, rows_all, rows_more, rows_none}
+use Rattle.station.proofs.RowsServing.{serves_as, rows_to_come, row_long, heard_inside, rows_all, rows_more, rows_none}
 use Rattle.station.proofs.Serving.{served_all, zeros_at_first, zeros_behind, zeros_behind_two, zeros_on}
 use Rattle.station.proofs.serve.turns.Goals as goal
 
@@ -10,9 +10,9 @@ pub loop-i-init : goal.loop-i-init
 unfolding served_all
 loop-i-init c = record {
   same_sheet = refl;
-  at_most = omega (arith, c.requires.0);
+  at_most = omega arith;
   as_long = refl;
-  served = rw c.requires.0;
+  served = refl;
   marks_long = c.told-marks;
   places_long = c.told-places;
   contents_long = c.told-contents;
@@ -52,7 +52,7 @@ put_entry-offset-requires c =
     let v = c.loop-i.invariant in
     record {
       inside = heard_inside _ _ _ _ c.turn-told.ensures c.in-Some.is;
-      enough = (omega (arith, v.at_most, c.loop-i-test.true), omega (arith, v.as_long, c.requires.1));
+      enough = (omega (arith, v.at_most, c.loop-i-test.true), omega (arith, v.as_long, c.requires));
     }
 
 pub loop-i-preserved : goal.loop-i-preserved
@@ -63,7 +63,7 @@ loop-i-preserved c =
       at_most = omega (arith, v.at_most, c.put_entry-offset.ensures.entry.1);
       as_long =
           put_long _ _ _ _ _ c.put_entry-offset.ensures.entry.0
-          (omega (arith, v.at_most, v.as_long, c.put_entry-offset.ensures.entry.1, c.requires.1, c.loop-i-test.true))
+          (omega (arith, v.at_most, v.as_long, c.put_entry-offset.ensures.entry.1, c.requires, c.loop-i-test.true))
           ∙ v.as_long;
       served =
           rw c.to_le_bytes.ensures
@@ -84,8 +84,9 @@ loop-i-preserved c =
           row_long c.args.inboxes.now c.args.inboxes.now c.loop-i.i 256 (λ j h. refl) v.inbox_long c.turn-told.ensures.inbox_long;
     }
 
-pub returns-clause-turns : goal.returns-clause-turns
-returns-clause-turns c =
+pub returns : goal.returns
+returns c =
     let v = c.loop-i.invariant in
-    rows_all c.args.marks.now c.args.places.now c.args.contents.now c.args.inboxes.now c.args.pen.now.sheet.now _ c.loop-i.i
-    c.told-marks c.told-places c.told-contents c.told-inboxes v.content_long v.inbox_long c.loop-i-test.false c.requires.1 v.served
+    serves_as _ (search rules)
+    (rows_all c.args.marks.now c.args.places.now c.args.contents.now c.args.inboxes.now c.args.sheet.now _ c.loop-i.i
+    c.told-marks c.told-places c.told-contents c.told-inboxes v.content_long v.inbox_long c.loop-i-test.false c.requires v.served)
