@@ -1,5 +1,5 @@
 // A quick way to say yes to the data of mode 2. A form is held as two texts, of the lowest and the highest character that it
-// takes in each place, so that many characters are tested at once. Where it says no, `fields.rt` decides by the pictures.
+// takes in each place, so that many characters are tested at once. Where it says no, `fitting.rt` decides by the pictures.
 ghost use Rattle.std.specs.Prelude.{◌≡◌, true, ◌+◌, ◌-◌, ◌≤◌, T as So, length};
 ghost use Rattle.groups.specs.Forms.{fits, some_fits};
 ghost use Rattle.groups.specs.Formats.{form_of, forms as forms_of};

@@ -2,16 +2,16 @@
 ghost use Rattle.std.specs.Prelude.{◌≡◌, ◌+◌, ◌%◌, ◌≤◌, length};
 ghost use Rattle.groups.specs.Modes.{counted_at_end};
 ghost use Rattle.groups.specs.Groups.{total, group_of};
-ghost use Rattle.groups.specs.Judging.{stamp_span, stamp_stretch};
+ghost use Rattle.groups.specs.Judging.{places_of, stamp_span, stamp_stretch};
 ghost use Rattle.groups.specs.Numbers.{number_of_refusal};
 ghost use Rattle.groups.specs.Place.{place_for};
 ghost use Rattle.groups.specs.Stored.{rule_of};
 ghost use Rattle.groups.specs.Inside.{check_from, ContentWalk, FrontSum, LabelWalk, Split, StartsWith};
-ghost use Rattle.groups.specs.Inside.{accepted_as, finished, judged_in, refused_at, told_behind, told_of, wrong_behind};
+ghost use Rattle.groups.specs.Inside.{finished, judged_in, told_behind, told_of, wrong_behind};
 
 use crate::find::Found;
 use crate::table::Rule;
-use crate::{Judged, Judgement, Mode, Refusal, Stretch, Verdict, fields, find, modes, stamps};
+use crate::{Fault, Fields, Mode, Refusal, Stretch, find, fitting, modes, stamps};
 
 // The sum of the codes.
 pub(crate) fn sum(text: &[u8]) -> u32
@@ -90,30 +90,6 @@ pub(crate) fn check_from(mode: Mode, label: &[u8], rest: u32) -> u8
     check_by(mode, sum(label) + separator + rest)
 }
 
-// A refusal, and the place that is told with it.
-pub(crate) fn refuse(refusal: Refusal, place: usize) -> Judgement
-    ensures { result ≡ refused_at refusal place }
-{
-    Judgement {
-        judged: Judged {
-            verdict: Verdict::Refused(refusal),
-            label: Stretch {
-                start: 0,
-                length: 0,
-            },
-            stamp: Stretch {
-                start: 0,
-                length: 0,
-            },
-            data: Stretch {
-                start: 0,
-                length: 0,
-            },
-        },
-        place,
-    }
-}
-
 // How many characters a stamp of this length, and the separator behind it, take.
 pub(crate) fn stamp_span(length: usize) -> usize
     ensures { (result ≡ stamp_span length) × (result ≤ 14) }
@@ -140,26 +116,22 @@ fn stamp_stretch(next: usize, length: usize) -> Stretch
     }
 }
 
-// Where the fields of an accepted group stand; its place is 0.
-fn accept(label: &[u8], stamp: &[u8], data: &[u8]) -> Judgement
-    ensures { result ≡ accepted_as (group_of label.now stamp.now «data».now) }
+// Where the fields of an accepted group stand.
+fn accept(label: &[u8], stamp: &[u8], data: &[u8]) -> Fields
+    ensures { result ≡ places_of (group_of label.now stamp.now «data».now) }
 {
     let next = label.len() + 1;
     let span = stamp_span(stamp.len());
-    Judgement {
-        judged: Judged {
-            verdict: Verdict::Accepted,
-            label: Stretch {
-                start: 0,
-                length: label.len(),
-            },
-            stamp: stamp_stretch(next, stamp.len()),
-            data: Stretch {
-                start: next + span,
-                length: data.len(),
-            },
+    Fields {
+        label: Stretch {
+            start: 0,
+            length: label.len(),
         },
-        place: 0,
+        stamp: stamp_stretch(next, stamp.len()),
+        data: Stretch {
+            start: next + span,
+            length: data.len(),
+        },
     }
 }
 
@@ -169,30 +141,25 @@ fn wrong_place(refusal: Refusal, rule: Rule, next: usize, stamp: &[u8], data: &[
     requires { next ≤ 129 }
     ensures { result ≡ place_for (number_of_refusal refusal) next (wrong_behind (rule_of rule) next stamp.now «data».now) }
 {
-    let number = crate::refusal_number(refusal);
-    if number == 12 {
-        return next;
+    match refusal {
+        Refusal::StampWrong => next,
+        Refusal::KindWrong => next + stamp_span(stamp.len()) + fitting::first_wrong(rule, data),
+        _ => 0,
     }
-    if number == 14 {
-        let span = stamp_span(stamp.len());
-        let before = fields::first_wrong(rule, data);
-        return next + span + before;
-    }
-    0
 }
 
 // The group of these fields, if its rule takes them.
-fn finish(rule: Rule, label: &[u8], stamp: &[u8], data: &[u8]) -> Judgement
+fn finish(rule: Rule, label: &[u8], stamp: &[u8], data: &[u8]) -> Result<Fields, Fault>
     requires { length label.now ≤ 128 }
     ensures { result ≡ finished (rule_of rule) label.now stamp.now «data».now }
 {
-    let fitness = fields::fit(rule, stamp, data);
+    let fitness = fitting::fit(rule, stamp, data);
     match fitness {
-        Verdict::Refused(refusal) => {
-            let at = wrong_place(refusal, rule, label.len() + 1, stamp, data);
-            refuse(refusal, at)
+        Ok(()) => Ok(accept(label, stamp, data)),
+        Err(refusal) => {
+            let place = wrong_place(refusal, rule, label.len() + 1, stamp, data);
+            Err(Fault { refusal, place })
         }
-        Verdict::Accepted => accept(label, stamp, data),
     }
 }
 
@@ -206,7 +173,7 @@ pub(crate) enum Parted {
 fn stamp_end(mode: Mode, rule: Rule, body: &[u8]) -> Parted
     ensures { Split mode (rule_of rule) body.now result }
 {
-    let mark = fields::mark_of(rule);
+    let mark = fitting::mark_of(rule);
     if stamps::is_stamped(mark) {
         if body.len() < 14 {
             return Parted::Unparted;
@@ -221,7 +188,7 @@ fn stamp_end(mode: Mode, rule: Rule, body: &[u8]) -> Parted
 
 // The fields of a label with this rule and a body, the characters between the first separator and the final one. `finish`
 // is called in one place, so that the compiler puts it there and passes nothing through memory.
-fn fields_of(mode: Mode, rule: Rule, label: &[u8], body: &[u8]) -> Judgement
+fn fields_of(mode: Mode, rule: Rule, label: &[u8], body: &[u8]) -> Result<Fields, Fault>
     requires { length label.now ≤ 128 }
     ensures { result ≡ told_of mode (rule_of rule) label.now body.now }
 {
@@ -231,49 +198,58 @@ fn fields_of(mode: Mode, rule: Rule, label: &[u8], body: &[u8]) -> Judgement
             let span = stamp_span(end);
             finish(rule, label, &body[..end], &body[span..])
         }
-        Parted::Unparted => refuse(Refusal::StampWrong, label.len() + 1),
+        Parted::Unparted => Err(Fault {
+            refusal: Refusal::StampWrong,
+            place: label.len() + 1,
+        }),
     }
 }
 
 // A content, its label, all that stands behind the separator of the label, and the sum of all but the last two of these
 // characters. The label is looked up in the content, so that its first eight bytes can be taken at once.
-fn behind_label(mode: Mode, content: &[u8], label: &[u8], rest: &[u8], front: u32) -> Judgement
+fn behind_label(
+    mode: Mode,
+    content: &[u8],
+    label: &[u8],
+    rest: &[u8],
+    front: u32,
+) -> Result<Fields, Fault>
     requires { (FrontSum mode label.now rest.now front) × (StartsWith label.now content.now) × (length label.now ≤ 128) }
     ensures { result ≡ told_behind mode label.now rest.now }
 {
     let n = rest.len();
     if n < 2 {
-        return refuse(Refusal::Misshapen, 0);
+        return Err(Refusal::Misshapen.into());
     }
     let end = n - 2;
     if rest[end] != modes::separator_of(mode) {
-        return refuse(Refusal::Misshapen, 0);
+        return Err(Refusal::Misshapen.into());
     }
     let body = &rest[..end];
     if rest[n - 1] != check_by(mode, front) {
-        return refuse(Refusal::CheckWrong, 0);
+        return Err(Refusal::CheckWrong.into());
     }
     let found = find::find(mode, content, label.len());
     match found {
         Found::Listed(rule) => fields_of(mode, rule, label, body),
-        Found::Unlisted => refuse(Refusal::LabelUnknown, 0),
+        Found::Unlisted => Err(Refusal::LabelUnknown.into()),
     }
 }
 
-pub(crate) fn read(mode: Mode, content: &[u8]) -> Judgement
+pub(crate) fn read(mode: Mode, content: &[u8]) -> Result<Fields, Fault>
     ensures { result ≡ judged_in mode content.now }
 {
     let n = content.len();
     if 128 < n {
-        return refuse(Refusal::TooLong, 0);
+        return Err(Refusal::TooLong.into());
     }
     let walked = walk(content, modes::separator_of(mode));
     let at = walked.first;
     if n <= at {
-        return refuse(Refusal::Misshapen, 0);
+        return Err(Refusal::Misshapen.into());
     }
     if at < 1 {
-        return refuse(Refusal::Misshapen, 0);
+        return Err(Refusal::Misshapen.into());
     }
     let next = at + 1;
     behind_label(mode, content, &content[..at], &content[next..], walked.sum)

@@ -3,7 +3,7 @@ ghost use Rattle.std.specs.Prelude.{◌≡◌, ◌+◌, ◌-◌, ◌≤◌, ◌<
 ghost use Rattle.groups.specs.Kinds.{within};
 ghost use Rattle.groups.specs.Stamps.{two_digits, days_in, date_right, is_stamped, season_right, stamp_right};
 
-use crate::fields;
+use crate::fitting;
 use crate::table::{Kind, Mark};
 
 pub(crate) fn is_stamped(mark: Mark) -> bool
@@ -57,7 +57,7 @@ fn date_right(stamp: &[u8]) -> bool
     requires { length stamp.now ≡ 13 }
     ensures { result ≡ date_right stamp.now }
 {
-    if fields::wrong_at(Kind::Digits, &stamp[1..]) != 12 {
+    if fitting::wrong_at(Kind::Digits, &stamp[1..]) != 12 {
         return false;
     }
     let month = two_digits(stamp, 3);

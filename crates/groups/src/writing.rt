@@ -1,6 +1,5 @@
 // The writer: every test first, then the bytes, one piece after the other.
 ghost use Rattle.std.specs.Prelude.{◌≡◌, [], ◌∷◌, map, ◌+◌, ◌≤◌, ◌<◌, length};
-ghost use Rattle.characters.specs.Answers.{refused};
 ghost use Rattle.characters.specs.Wire.{wire_byte_of};
 ghost use Rattle.groups.specs.Stamps.{is_stamped};
 ghost use Rattle.groups.specs.Groups.{total, body, content as content_of, compose, group_of};
@@ -10,7 +9,7 @@ ghost use Rattle.groups.specs.Inside.{Laid, ShortRow, RightFields, write_by};
 
 use crate::find::Found;
 use crate::table::{Mark, Rule};
-use crate::{Mode, Outcome, Refusal, Verdict, Written, fields, find, modes, reading, stamps};
+use crate::{Mode, Refusal, find, fitting, modes, reading, stamps};
 
 fn put(buffer: &mut [u8], at: usize, code: u8) -> usize
     requires { at < length buffer.old }
@@ -84,16 +83,6 @@ fn put_group(
     put(buffer, f, characters::CR)
 }
 
-// A refused writing: the buffer comes along so that the contract can say that it stays as it was.
-pub(crate) fn stop(refusal: Refusal, buffer: &mut [u8]) -> Written
-    ensures { Wrote (refused refusal) buffer.old result buffer.new }
-{
-    Written {
-        outcome: Outcome::Refused(refusal),
-        count: 0,
-    }
-}
-
 // The group of these fields, by its label's rule.
 fn write_by(
     mode: Mode,
@@ -102,15 +91,12 @@ fn write_by(
     stamp: &[u8],
     data: &[u8],
     buffer: &mut [u8],
-) -> Written
+) -> Result<usize, Refusal>
     requires { ShortRow (rule_of rule) label.now }
     ensures { Wrote (write_by mode (rule_of rule) (group_of label.now stamp.now «data».now) (length buffer.old)) buffer.old result buffer.new }
 {
-    let fitness = fields::fit(rule, stamp, data);
-    match fitness {
-        Verdict::Refused(refusal) => stop(refusal, buffer),
-        Verdict::Accepted => write_right(mode, rule, label, stamp, data, buffer),
-    }
+    fitting::fit(rule, stamp, data)?;
+    write_right(mode, rule, label, stamp, data, buffer)
 }
 
 // The same for fields that the rule takes.
@@ -121,21 +107,17 @@ fn write_right(
     stamp: &[u8],
     data: &[u8],
     buffer: &mut [u8],
-) -> Written
+) -> Result<usize, Refusal>
     requires { ShortRow (rule_of rule) label.now × RightFields (rule_of rule) stamp.now «data».now }
     ensures { Wrote (write_by mode (rule_of rule) (group_of label.now stamp.now «data».now) (length buffer.old)) buffer.old result buffer.new }
 {
     let span = reading::stamp_span(stamp.len());
     let size = label.len() + 1 + span + data.len() + 4;
     if buffer.len() < size {
-        return stop(Refusal::NoRoom, buffer);
+        return Err(Refusal::NoRoom);
     }
-    let mark = fields::mark_of(rule);
-    let count = put_group(mode, mark, label, stamp, data, buffer);
-    Written {
-        outcome: Outcome::Done,
-        count,
-    }
+    let mark = fitting::mark_of(rule);
+    Ok(put_group(mode, mark, label, stamp, data, buffer))
 }
 
 pub(crate) fn write_in(
@@ -144,12 +126,12 @@ pub(crate) fn write_in(
     stamp: &[u8],
     data: &[u8],
     buffer: &mut [u8],
-) -> Written
+) -> Result<usize, Refusal>
     ensures { Wrote (into (length buffer.old) (compose mode (group_of label.now stamp.now «data».now))) buffer.old result buffer.new }
 {
     let found = find::find(mode, label, label.len());
     match found {
         Found::Listed(rule) => write_by(mode, rule, label, stamp, data, buffer),
-        Found::Unlisted => stop(Refusal::LabelUnknown, buffer),
+        Found::Unlisted => Err(Refusal::LabelUnknown),
     }
 }

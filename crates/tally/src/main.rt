@@ -11,7 +11,7 @@
 
 ghost use Rattle.std.specs.Prelude.{◌≡◌, ◌+◌, ◌<◌, ◌≤◌};
 
-use line::{LineState, Opening};
+use line::LineState;
 
 // How the count goes on: with a line, or not at all, since the input is over.
 #[derive(Drop)]
@@ -125,15 +125,15 @@ fn show_all(rt: &HostRuntime, counts: &[u64]) {
 }
 
 // The line that a capture opens, given how many bytes came, none or one, and that one.
-fn begin(count: isize, letter: u8) -> Opening {
+fn begin(count: isize, letter: u8) -> Option<LineState> {
     if count == 0 {
-        return Opening::ModeUnknown;
+        return None;
     }
     match letter {
         b'H' => line::open(0),
         b'S' => line::open(1),
         b'P' => line::open(2),
-        _ => Opening::ModeUnknown,
+        _ => None,
     }
 }
 
@@ -147,11 +147,11 @@ fn main(rt: HostRuntime) {
     }
     let opening = begin(got, first[0]);
     match opening {
-        Opening::Opened(line) => {
+        Some(line) => {
             count_all(&rt, line, &mut counts);
             show_all(&rt, &counts);
         }
-        Opening::ModeUnknown => {
+        None => {
             print(&rt, b"20\n");
         }
     }

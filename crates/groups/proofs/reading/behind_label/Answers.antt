@@ -2,6 +2,7 @@
 use Rattle.groups.proofs.Views.{found_none, found_some}
 use Rattle.groups.proofs.Walks.{check_front}
 use Prim.Native.Nat.{ℕ}
+use Rattle.std.specs.Prelude.{Err}
 use Rattle.groups.proofs.Telling.{told_listed, told_nowhere}
 use Rattle.groups.specs.Table.{lookup, rows}
 use mathlib.Core.List.{List}
@@ -14,12 +15,12 @@ use Rattle.groups.proofs.reading.behind_label.Goals as goal
 
 pub returns-then-n-lt2 : goal.returns-then-n-lt2
 returns-then-n-lt2 c =
-    c.refuse.ensures ∙ told_nowhere _ _ _ Misshapen tt tt (behind_short c.args.mode c.args.label.now c.args.rest.now
+    ap Err c.into.ensures ∙ told_nowhere _ _ _ Misshapen tt tt (behind_short c.args.mode c.args.label.now c.args.rest.now
     c.if-n-lt2.true)
 
 pub returns-then-rest-end : goal.returns-then-rest-end
 returns-then-rest-end c =
-    c.refuse-then-rest-end.ensures ∙ told_nowhere _ _ _ Misshapen tt tt (behind_open c.args.mode c.args.label.now c.args.rest.now c.if-n-lt2.false (λ
+    ap Err c.into-then-rest-end.ensures ∙ told_nowhere _ _ _ Misshapen tt tt (behind_open c.args.mode c.args.label.now c.args.rest.now c.if-n-lt2.false (λ
     z. c.if-rest-end.true (z ∙ sym c.separator_of.ensures)))
 
 pub slice_bounds-body-end : goal.slice_bounds-body-end
@@ -30,7 +31,7 @@ check_by-requires c = omega (arith, c.requires.0.small)
 
 pub returns-then-rest-n : goal.returns-then-rest-n
 returns-then-rest-n c =
-    c.refuse-then-rest-n.ensures ∙ told_nowhere _ _ _ CheckWrong tt tt (behind_checked c.args.mode c.args.label.now c.args.rest.now c.if-n-lt2.false
+    ap Err c.into-then-rest-n.ensures ∙ told_nowhere _ _ _ CheckWrong tt tt (behind_checked c.args.mode c.args.label.now c.args.rest.now c.if-n-lt2.false
     (c.if-rest-end.false ∙ c.separator_of.ensures) (λ z. c.if-rest-n.true (z ∙ sym
     (c.check_by.ensures ∙ check_front c.args.mode c.args.label.now c.args.rest.now c.args.front c.requires.0 c.if-n-lt2.false))))
 
@@ -49,6 +50,6 @@ returns-in-Listed c =
 
 pub returns-in-Unlisted : goal.returns-in-Unlisted
 returns-in-Unlisted c =
-    c.refuse-in-Unlisted.ensures ∙ told_nowhere _ _ _ LabelUnknown tt tt (behind_unlisted c.args.mode c.args.label.now c.args.rest.now c.if-n-lt2.false
+    ap Err c.into-in-Unlisted.ensures ∙ told_nowhere _ _ _ LabelUnknown tt tt (behind_unlisted c.args.mode c.args.label.now c.args.rest.now c.if-n-lt2.false
     (c.if-rest-end.false ∙ c.separator_of.ensures) (c.if-rest-n.false ∙ c.check_by.ensures ∙ check_front c.args.mode c.args.label.now c.args.rest.now c.args.front c.requires.0 c.if-n-lt2.false)
     (found_none (c.find-found.ensures ∙ ap (λ (l : List ℕ). lookup l (rows c.args.mode)) c.requires.1.begins) c.in-Unlisted.is))

@@ -32,5 +32,5 @@ returns-in-At c =
 
 pub returns-in-Unparted : goal.returns-in-Unparted
 returns-in-Unparted c =
-    c.refuse.ensures ∙ told_next _ _ _ (split_at c.args.mode (rule_of c.args.rule) c.args.body.now c.stamp_end-parted.ensures
+    told_next _ _ _ (split_at c.args.mode (rule_of c.args.rule) c.args.body.now c.stamp_end-parted.ensures
     c.in-Unparted.is c.args.label.now)

@@ -1,5 +1,5 @@
 -- The label is looked up, and its rule decides.
-use Rattle.groups.proofs.Laying.{listed_short, write_listed, write_unlisted, wrote_as}
+use Rattle.groups.proofs.Laying.{listed_short, write_listed, write_unlisted, wrote_as, wrote_nothing}
 use Rattle.groups.proofs.Views.{found_none, found_some}
 use Rattle.groups.specs.Groups.{group_of}
 use lib.ListN.{length}
@@ -23,6 +23,5 @@ returns-in-Listed c =
 
 pub returns-in-Unlisted : goal.returns-in-Unlisted
 returns-in-Unlisted c =
-    wrote_as c.args.buffer.now _ _ (write_unlisted c.args.mode (group_of c.args.label.now c.args.stamp.now c.args.«data».now)
+    wrote_nothing c.args.buffer.now _ (write_unlisted c.args.mode (group_of c.args.label.now c.args.stamp.now c.args.«data».now)
     (length c.args.buffer.now) (found_none (c.find-found.ensures ∙ ap (λ (l : List ℕ). lookup l (rows c.args.mode)) (take_all (length c.args.label.now) c.args.label.now (omega arith))) c.in-Unlisted.is))
-    c.stop.ensures
