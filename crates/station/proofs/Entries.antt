@@ -13,7 +13,7 @@ use Rattle.line.specs.Numbers.{number_of, number_of_notice, place_of, place_of_n
 use Rattle.line.specs.Views.{FieldsInside}
 use Rattle.line.proofs.Laws.Heard.{heard_nothing, heard_told, heard_accepted}
 use Rattle.line.proofs.Laws.GroupsByBytes.{notice_number}
-use Rattle.line.specs.declared.Fields.{Fields}
+use Rattle.groups.specs.declared.Fields.{Fields}
 use Rattle.line.specs.declared.Notice.{Notice}
 use Rattle.line.specs.declared.Heard.{Heard}
 use Rattle.line.specs.declared.Heard.TheVariants.{Nothing, Accepted, Told}

@@ -23,7 +23,6 @@ ghost use Rattle.station.specs.Memory.{behind};
 ghost use Rattle.station.specs.CallContracts.{Opens, Delivers, Serves};
 
 use crate::row::Row;
-use line::Opening;
 
 // A row for each line.
 pub type Marks = [[u8; 6]; 8];
@@ -62,21 +61,19 @@ pub fn open(
     if line >= 8 {
         return Err(Refusal::LineUnknown);
     }
+    let Some(state) = line::open(mode) else {
+        return Err(Refusal::ModeUnknown);
+    };
+    let row = Row {
+        opened: 1,
+        state,
+        first: 0,
+        count: 0,
+    };
     let at = line as usize;
-    match line::open(mode) {
-        Opening::Opened(state) => {
-            let row = Row {
-                opened: 1,
-                state,
-                first: 0,
-                count: 0,
-            };
-            marks[at] = row.marks();
-            places[at] = row.places();
-            Ok(())
-        }
-        Opening::ModeUnknown => Err(Refusal::ModeUnknown),
-    }
+    marks[at] = row.marks();
+    places[at] = row.places();
+    Ok(())
 }
 
 // Adds bytes to the inbox of an open line, all of them or none.
