@@ -1,5 +1,5 @@
 -- A line or a mode that no byte holds is answered as 255 is, which is neither.
-use Rattle.std.specs.Prelude.{◌≡◌, refl, List, ℕ, ◌≤◌, min}
+use Rattle.std.specs.Prelude.{◌≡◌, List, ℕ, ◌≤◌, min}
 use Rattle.std.proofs.Common.{sym, ap, ◌∙◌, arith}
 use Rattle.std.proofs.Math.Nat.{min-eq_left, min-eq_right}
 use Rattle.groups.specs.Groups.{Group}

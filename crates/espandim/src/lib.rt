@@ -97,21 +97,25 @@ pub extern "C" fn espandim_judge(
     ensures { Judges (judgement mode content.now) result stretches.new place.new }
 {
     let judgement = groups::judge(byte_of(mode), content);
-    let shown = judgement.judged;
-    *place = judgement.place;
-    let verdict = shown.verdict;
-    let label = shown.label;
-    let stamp = shown.stamp;
-    let data = shown.data;
-    *stretches = [
-        label.start,
-        label.length,
-        stamp.start,
-        stamp.length,
-        data.start,
-        data.length,
-    ];
-    u32::from(groups::number_of(verdict))
+    let number = groups::number_of(judgement);
+    match judgement {
+        Ok(fields) => {
+            *stretches = [
+                fields.label.start,
+                fields.label.length,
+                fields.stamp.start,
+                fields.stamp.length,
+                fields.data.start,
+                fields.data.length,
+            ];
+            *place = 0;
+        }
+        Err(fault) => {
+            *stretches = [0; 6];
+            *place = fault.place;
+        }
+    }
+    u32::from(number)
 }
 
 // Writes LF, the content of the group with these fields, and CR, at the start of the buffer, and tells how many bytes.
@@ -130,7 +134,6 @@ pub extern "C" fn espandim_write(
         buffer.old result buffer.new written.new }
 {
     let done = groups::write(byte_of(mode), label, stamp, data, buffer);
-    let outcome = done.outcome;
-    *written = done.count;
-    u32::from(groups::number_of_writing(outcome))
+    *written = done.unwrap_or(0);
+    u32::from(groups::number_of_writing(done))
 }

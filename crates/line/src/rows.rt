@@ -83,6 +83,7 @@ fn take_quiet(line: Line, bytes: &[u8]) -> Run
 }
 
 // Whether a byte is sound and one of the characters that groups are made of: no control character but HT.
+#[tactic(auto, unfolding(crate::specs::Runs::is_plain_byte))]
 fn is_plain(byte: u8) -> bool
     ensures { result ≡ is_plain_byte byte }
 {

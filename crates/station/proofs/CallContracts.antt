@@ -10,7 +10,6 @@ use Rattle.groups.specs.Judging.{Part}
 use Rattle.groups.specs.Writing.{Wrote}
 use Rattle.groups.specs.declared.Refusal as groups
 use Rattle.groups.specs.declared.Stretch.{Stretch}
-use Rattle.groups.specs.declared.Written.{Written}
 use Rattle.line.specs.Steps.{FedTo, Fed}
 use Rattle.line.specs.declared.Taken.{Taken}
 use Rattle.station.specs.Records.{Called, Rounded}
@@ -29,7 +28,7 @@ pub parts_equal : (s : Stretch) (content part other : Bor (List ℕ)) → Part s
     → (part.ref_ptr ≡ other.ref_ptr) × (part.now ≡ other.now)
 parts_equal s content part other p q = (p.lies ∙ sym q.lies, p.bytes ∙ sym q.bytes)
 
-pub writings_equal : (a : Answer groups.Refusal (List ℕ)) (before after after' : List ℕ) (result other : Written)
+pub writings_equal : (a : Answer groups.Refusal (List ℕ)) (before after after' : List ℕ) (result other : Result ℕ groups.Refusal)
     → Wrote a before result after → Wrote a before other after' → (result ≡ other) × (after ≡ after')
 writings_equal a before after after' result other w v = (w.tells ∙ sym v.tells, w.leaves ∙ sym v.leaves)
 

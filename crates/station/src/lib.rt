@@ -11,9 +11,8 @@
 // gathers the four arrays, as they are when a call begins (`old`), and when it has returned (`new`).
 #![tactic(auto)]
 
-mod copy;
 mod inbox;
-mod known;
+mod row;
 mod serve;
 mod sheet;
 mod turn;
@@ -23,7 +22,7 @@ ghost use Rattle.station.specs.Numbers.{number_of};
 ghost use Rattle.station.specs.Memory.{behind};
 ghost use Rattle.station.specs.CallContracts.{Opens, Delivers, Serves};
 
-use line::Opening;
+use crate::row::Row;
 
 // A row for each line.
 pub type Marks = [[u8; 6]; 8];
@@ -59,18 +58,22 @@ pub fn open(
     ensures { Opens (behind marks.old places.old contents.now inboxes.now) line mode result
         (behind marks.new places.new contents.now inboxes.now) }
 {
-    known::sized(*marks, *places, *contents, *inboxes);
     if line >= 8 {
         return Err(Refusal::LineUnknown);
     }
+    let Some(state) = line::open(mode) else {
+        return Err(Refusal::ModeUnknown);
+    };
+    let row = Row {
+        opened: 1,
+        state,
+        first: 0,
+        count: 0,
+    };
     let at = line as usize;
-    match line::open(mode) {
-        Opening::Opened(state) => {
-            inbox::opened(&mut marks[at], &mut places[at], state);
-            Ok(())
-        }
-        Opening::ModeUnknown => Err(Refusal::ModeUnknown),
-    }
+    marks[at] = row.marks();
+    places[at] = row.places();
+    Ok(())
 }
 
 // Adds bytes to the inbox of an open line, all of them or none.
@@ -85,7 +88,6 @@ pub fn deliver(
     ensures { Delivers (behind marks.now places.old contents.now inboxes.old) line bytes.now result
         (behind marks.now places.new contents.now inboxes.new) }
 {
-    known::sized(*marks, *places, *contents, *inboxes);
     if line >= 8 {
         return Err(Refusal::LineUnknown);
     }
@@ -113,12 +115,7 @@ pub fn round(
     if sheet.len() < SMALLEST_SHEET {
         return Err(Refusal::SheetShort);
     }
-    let served = serve::serve(marks, places, contents, inboxes, sheet);
-    let counts = served.counts;
-    let offsets = served.offsets;
-    copy::copy_in(sheet, 0, &counts);
-    copy::copy_in(sheet, 8, &offsets);
-    Ok(counts)
+    Ok(serve::serve(marks, places, contents, inboxes, sheet))
 }
 
 // Document 01's number of what a call returned.

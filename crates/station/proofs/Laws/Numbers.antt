@@ -1,5 +1,5 @@
 -- The numbers that calls return, and what a refused call leaves.
-use Rattle.std.specs.Prelude.{◌≡◌, refl, ◌≢◌, List, [], ◌∷◌, ◌++◌, ℕ, ◌<◌, T, ltb, length, Result}
+use Rattle.std.specs.Prelude.{◌≡◌, refl, ◌≢◌, List, [], ◌∷◌, ◌++◌, ℕ, ◌<◌, T, ltb, length, Result, Option, Some, None}
 use Rattle.std.proofs.Common.{ap, ◌∙◌, le-ltb, le-leb, eq-eqb}
 use Rattle.std.proofs.Math.Seq.{drop-append_seam}
 use Rattle.std.proofs.lemmas.Bool.{lt-leb}
@@ -7,9 +7,8 @@ use Rattle.characters.specs.Answers.{Answer, refused, given, need, by_need, pick
 use Rattle.groups.specs.Modes.{is_mode}
 use Rattle.groups.proofs.Laws.Tests.{split}
 use Rattle.groups.proofs.Laws.Unknown.{known_below}
+use Rattle.line.specs.declared.LineState.{LineState}
 use Rattle.line.specs.State.{opening_of}
-use Rattle.line.specs.declared.Opening.{Opening}
-use Rattle.line.specs.declared.Opening.TheVariants as line
 use Rattle.station.specs.Numbers.{number_of}
 use Rattle.station.specs.Lines.{is_open, filling}
 use Rattle.station.specs.Stations.{
@@ -53,9 +52,9 @@ abbrev Among : {A : Type 0} → Call → Result A Refusal → Type 0
 Among c reply = T (is_among (number_of reply) (numbers_of c))
 
 -- the number of an opening, whatever the line makes of the mode
-opening_among : (s : Station) (i mode : ℕ) (o : Opening) → Among (opens i mode) (called s (opening_by s i o)).reply
-opening_among s i mode (line.Opened state) = tt
-opening_among s i mode line.ModeUnknown = tt
+opening_among : (s : Station) (i mode : ℕ) (o : Option LineState) → Among (opens i mode) (called s (opening_by s i o)).reply
+opening_among s i mode (Some state) = tt
+opening_among s i mode None = tt
 
 -- the number of a delivery, whatever comes of filling the line
 filling_among : (s : Station) (i : ℕ) (l : StationLine) (bytes : List ℕ)
