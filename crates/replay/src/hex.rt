@@ -1,24 +1,33 @@
-// Bytes as a field of a line.
-ghost use Rattle.std.specs.Prelude.{Some};
+// Bytes in hex. `{:02x}` for each of them would take several times as long.
+ghost use Rattle.std.specs.Prelude.{◌∷◌, ◌≡◌, ◌<◌, OnOk};
+ghost use Rattle.io.specs.Digits.{hex_digit_ascii};
+ghost use Rattle.streams.specs.Page.{with_bytes};
 ghost use Rattle.replay.specs.Hex.{hex_field};
 
-use std::fmt;
+use streams::{Page, Stopped};
 
-// Bytes in hex, in small letters. No bytes are `-`, or else the field could not be seen.
-#[derive(Clone, Copy)]
-pub struct Hex<'a>(pub &'a [u8]);
-
-impl fmt::Display for Hex<'_> {
-    ghost output = { λ hex. Some (hex_field hex.0.now) };
-
-    fn fmt<W: fmt::Write>(&self, f: &mut fmt::Formatter<W>) -> fmt::Result {
-        if self.0.is_empty() {
-            return write!(f, "-");
-        }
-        for byte in self.0 {
-            let code = *byte;
-            write!(f, "{code:02x}")?;
-        }
-        Ok(())
+fn digit(number: u8) -> u8
+    requires { number < 16 }
+    ensures { result ≡ hex_digit_ascii number }
+{
+    if number < 10 {
+        b'0' + number
+    } else {
+        b'a' - 10 + number
     }
+}
+
+// Lays bytes in hex, in small letters, as a field of a line, behind the space that parts it from what stands before. No bytes
+// are `-`, or else the field could not be seen.
+pub(crate) fn put_hex(page: &mut Page, bytes: &[u8]) -> Result<(), Stopped>
+    ensures { OnOk result (page.new ≡ with_bytes page.old (32 ∷ hex_field bytes.now)) }
+{
+    if bytes.is_empty() {
+        return page.put_all(b" -");
+    }
+    page.put_all(b" ")?;
+    for byte in bytes {
+        page.put_all(&[digit(*byte / 16), digit(*byte % 16)])?;
+    }
+    Ok(())
 }

@@ -49,7 +49,7 @@ impl<'a> Input<'a> {
     }
 
     // The next byte, or none at the end of the input.
-    pub(crate) fn next(&mut self) -> Option<u8> {
+    pub(crate) fn next_byte(&mut self) -> Option<u8> {
         if self.is_used_up() {
             self.refill();
         }
@@ -63,7 +63,7 @@ impl<'a> Input<'a> {
 
     // Takes a byte of a record.
     pub(crate) fn take(&mut self) -> Result<u8, Stop> {
-        self.next().ok_or(Stop::CutShort)
+        self.next_byte().ok_or(Stop::CutShort)
     }
 
     // Takes a length, low byte first.

@@ -20,7 +20,7 @@
 mod hex;
 mod input;
 
-use hex::Hex;
+use hex::put_hex;
 use input::Input;
 use station::{Contents, Inboxes, Marks, Places, Refusal};
 use std::fmt;
@@ -35,6 +35,12 @@ pub enum Stop {
     CutShort,
     // What is to be written could not be, which has been said.
     Closed,
+}
+
+impl From<Stopped> for Stop {
+    fn from(_stopped: Stopped) -> Stop {
+        Stop::Closed
+    }
 }
 
 impl From<fmt::Error> for Stop {
@@ -133,16 +139,17 @@ impl<'a> Desk<'a> {
     }
 
     fn round(&mut self) -> Result<(), Stop> {
-        let count = self.input.take_length()?;
+        let size = self.input.take_length()?;
         let mut room = [self.input.take()?; 4096];
-        let sheet = &mut room[..count];
+        let sheet = &mut room[..size];
         let told = self.station.round(sheet);
         let number = station::number_of(told);
         write!(self.page, "R {number}")?;
         for count in told.unwrap_or([0; 8]) {
             write!(self.page, " {count}")?;
         }
-        writeln!(self.page, " {}", Hex(sheet))?;
+        put_hex(&mut self.page, sheet)?;
+        writeln!(self.page)?;
         Ok(())
     }
 
@@ -151,14 +158,20 @@ impl<'a> Desk<'a> {
         let mode = self.input.take()?;
         let content = self.input.take_block(&mut room)?;
         let judgement = groups::judge(mode, content);
-        let judged = judgement.judged;
-        let verdict = judged.verdict;
-        let number = groups::number_of(verdict);
-        let place = judgement.place;
-        let label = Hex(groups::part(content, judged.label));
-        let stamp = Hex(groups::part(content, judged.stamp));
-        let data = Hex(groups::part(content, judged.data));
-        writeln!(self.page, "J {number} {label} {stamp} {data} {place}")?;
+        let number = groups::number_of(judgement);
+        write!(self.page, "J {number}")?;
+        match judgement {
+            Ok(fields) => {
+                for field in [fields.label, fields.stamp, fields.data] {
+                    put_hex(&mut self.page, groups::part(content, field))?;
+                }
+                writeln!(self.page, " 0")?;
+            }
+            Err(fault) => {
+                let place = fault.place;
+                writeln!(self.page, " - - - {place}")?;
+            }
+        }
         Ok(())
     }
 
@@ -170,14 +183,15 @@ impl<'a> Desk<'a> {
         let label = self.input.take_text(&mut label_room)?;
         let stamp = self.input.take_text(&mut stamp_room)?;
         let data = self.input.take_text(&mut data_room)?;
-        let count = self.input.take_length()?;
+        let size = self.input.take_length()?;
         let mut room = [self.input.take()?; 4096];
-        let buffer = &mut room[..count];
+        let buffer = &mut room[..size];
         let written = groups::write(mode, label, stamp, data, buffer);
-        let outcome = written.outcome;
-        let number = groups::number_of_writing(outcome);
-        let length = written.count;
-        writeln!(self.page, "W {number} {length} {}", Hex(buffer))?;
+        let number = groups::number_of_writing(written);
+        let length = written.unwrap_or(0);
+        write!(self.page, "W {number} {length}")?;
+        put_hex(&mut self.page, buffer)?;
+        writeln!(self.page)?;
         Ok(())
     }
 
@@ -213,7 +227,7 @@ impl<'a> Desk<'a> {
                 self.page.flush()?;
             }
             let start = self.input.place();
-            let Some(letter) = self.input.next() else {
+            let Some(letter) = self.input.next_byte() else {
                 break;
             };
             if let Err(stop) = self.replay(letter) {
