@@ -196,6 +196,7 @@ impl<'a> Desk<'a> {
     }
 
     // The record that begins with this letter.
+    // Kept as a match: five methods that take nothing but the desk, where a table of closures would be no plainer.
     fn replay(&mut self, letter: u8) -> Result<(), Stop> {
         match letter {
             b'O' => self.open(),
