@@ -51,6 +51,8 @@ use Rattle.std.proofs.Common.{
   length-take,
   length-take-le,
   take-append-drop,
+  take-take,
+  min,
   fold,
   ltb,
 }
@@ -299,6 +301,17 @@ lays_eight old bs g i new a b c p e =
         let here : get_or (take 8 (drop i bs)) (j - i) 0 ≡ get_or bs j 0 =
         get_or-take 8 (drop i bs) (j - i) 0 (omega arith) ∙ get_or-drop i bs (j - i) 0 ∙ ap (λ (k : ℕ). get_or bs k 0) (omega arith) in
         rw here at (all (j - i) long)
+
+-- of some bytes at the front
+pub lays_front : (old bs g : List ℕ) (n i : ℕ) → Lays old (take n bs) i g → Lays old bs i g
+lays_front old bs g n i a =
+    let short : i ≤ min n (length bs) = rw (← (length-take n bs)) a.most in
+    record {
+      most = omega arith;
+      room = a.room;
+      texts = λ k h. rw (get_or-take n bs k 0 (omega arith)) at (a.texts k h);
+      laid = rw (take-take i n bs (omega arith)) at a.laid;
+    }
 
 -- eight bytes behind some
 pub cut_eight : (bs : List ℕ) (i : ℕ) (eight : List ℕ) → i ≤ length bs → eight ≡ take 8 (take (length bs - i) (drop i bs))

@@ -65,6 +65,7 @@ pub struct Taken {
 }
 
 // A line of this mode, outside of every frame, of which none came yet; none where the mode is not known.
+#[tactic(auto, unfolding(crate::specs::State::opening_of, characters::specs::Answers::pick))]
 pub fn open(mode: u8) -> Option<LineState>
     ensures { result ≡ opening_of mode }
 {

@@ -83,6 +83,7 @@ fn take_quiet(line: Line, bytes: &[u8]) -> Run
 }
 
 // Whether a byte is sound and one of the characters that groups are made of: no control character but HT.
+#[tactic(auto, unfolding(crate::specs::Runs::is_plain_byte))]
 fn is_plain(byte: u8) -> bool
     ensures { result ≡ is_plain_byte byte }
 {
@@ -108,11 +109,12 @@ fn codes_of(eight: &[u8; 8]) -> [u8; 8]
 
 // Adds the plain characters at the front, eight by eight, and tells how many they are.
 fn add_eights(room: &mut [u8], bytes: &[u8]) -> usize
+    requires { length bytes.now ≤ length room.old }
     ensures { Lays room.old bytes.now result room.new }
 {
     let mut count = 0;
     while let Some(eight) = bytes[count..].first_chunk::<8>() {
-        if room.len() - count < 8 || !are_plain(eight) {
+        if !are_plain(eight) {
             return count;
         }
         let codes = codes_of(eight);
@@ -124,25 +126,26 @@ fn add_eights(room: &mut [u8], bytes: &[u8]) -> usize
 
 // Adds the characters from a place on, one by one, and tells the place behind them.
 fn add_rest(room: &mut [u8], bytes: &[u8], from: usize) -> usize
-    requires { (from ≤ length room.old) × (from ≤ length bytes.now) }
+    requires { (from ≤ length bytes.now) × (length bytes.now ≤ length room.old) }
     ensures { LaysOn bytes.now from room.old result room.new }
 {
-    let end = room.len().min(bytes.len());
-    for i in from..end {
+    for i in from..bytes.len() {
         let Symbol::Text(code) = rules::symbol_of(bytes[i]) else {
             return i;
         };
         room[i] = code;
     }
-    end
+    bytes.len()
 }
 
 // Adds the characters at the front of the bytes, as far as there is room, and tells how many they are.
 fn add_text(room: &mut [u8], bytes: &[u8]) -> usize
     ensures { Lays room.old bytes.now result room.new }
 {
-    let from = add_eights(room, bytes);
-    add_rest(room, bytes, from)
+    let most = room.len().min(bytes.len());
+    let fits = &bytes[..most];
+    let from = add_eights(room, fits);
+    add_rest(room, fits, from)
 }
 
 // Takes the bytes at the front that give no answer, as far as they are taken in a row.

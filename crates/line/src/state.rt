@@ -37,6 +37,7 @@ impl LineState {
     ghost use Rattle.line.specs.State.{phase_of};
 
     // Where the line is. A number that no call makes is read as one that a call makes.
+    #[tactic(auto, unfolding(crate::specs::State::phase_of, characters::specs::Answers::pick))]
     fn phase(self) -> Phase
         ensures { result ≡ phase_of self }
     {
@@ -53,6 +54,7 @@ impl From<LineState> for Line {
 
     ghost from_gives = { IsRead };
 
+    #[tactic(auto, unfolding(crate::specs::State::held_in))]
     fn from(state: LineState) -> Line {
         Line {
             mode: state.mode,

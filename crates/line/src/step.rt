@@ -17,6 +17,7 @@ pub struct Reaction {
 }
 
 // What a group that is complete gives.
+#[tactic(auto, unfolding(crate::specs::Steps::heard_of, characters::specs::Answers::pick))]
 fn judged(mode: u8, damaged: bool, overlong: bool, content: &[u8]) -> Heard
     ensures { result ≡ heard_of mode damaged overlong content.now }
 {
@@ -61,6 +62,7 @@ fn ended(line: Line, flaw: bool, heard: Heard) -> Reaction
 }
 
 // What a byte does to a line; the number of its frame is then the one after the byte.
+#[tactic(auto, unfolding(characters::specs::Answers::pick))]
 pub(crate) fn step(mut line: Line, content: &mut [u8; 128], byte: u8) -> Reaction
     ensures { Stepped (reacted line content.old byte) result content.new }
 {
