@@ -20,8 +20,7 @@ use Rattle.groups.proofs.Laws.Groups.{checked_given}
 use Rattle.groups.specs.declared.Mode.{Mode}
 use Rattle.groups.specs.declared.Refusal.{Refusal}
 use Rattle.groups.specs.declared.Refusal.TheVariants.{StampWrong, WidthWrong, KindWrong, ModeUnknown}
-use Rattle.groups.specs.declared.find.Found.{Found}
-use Rattle.groups.specs.declared.find.Found.TheVariants.{Listed, Unlisted}
+use Rattle.std.specs.Prelude.{Option as StoredOption, Some, None}
 use Rattle.groups.specs.declared.table.Rule.{Rule as StoredRule}
 
 pub known_is_ok : (o : Option Mode) → is_ok (known_mode o) ≡ is_known o
@@ -36,10 +35,10 @@ pub known_some : (o : Option Mode) {m : Mode} → known_mode o ≡ Ok m → o �
 known_some none e = let z : ◌≡◌ {A = ℕ} 0 1 = cc in absurd (zero_is_not_one z)
 known_some (some n) e = cc
 
-pub found_none : {f : Found} {o : Option Rule} → rule_found f ≡ o → f ≡ Unlisted → o ≡ none
+pub found_none : {f : StoredOption StoredRule} {o : Option Rule} → rule_found f ≡ o → f ≡ None → o ≡ none
 found_none e u = sym e ∙ ap rule_found u
 
-pub found_some : {f : Found} {o : Option Rule} (r : StoredRule) → rule_found f ≡ o → f ≡ Listed r → o ≡ some (rule_of r)
+pub found_some : {f : StoredOption StoredRule} {o : Option Rule} (r : StoredRule) → rule_found f ≡ o → f ≡ Some r → o ≡ some (rule_of r)
 found_some r e u = sym e ∙ ap rule_found u
 
 -- a value that is accepted is given; a refusal is the same whatever value was asked for

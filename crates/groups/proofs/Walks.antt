@@ -22,7 +22,8 @@ use Rattle.groups.specs.Inside.{wrong_at, check_from, RightUpTo, ContentWalk, Sp
 use Rattle.groups.proofs.Laws.Tests.{split}
 use Rattle.groups.proofs.Laws.Conditions.{front_behind}
 use Rattle.groups.specs.declared.Mode.{Mode}
-use Rattle.groups.specs.declared.reading.Parted.{Parted}
+use Rattle.std.specs.Prelude.{Option}
+use Rattle.std.specs.List.{fold}
 use Rattle.groups.specs.declared.table.Kind.TheVariants.{Digits}
 use Rattle.groups.specs.declared.Mode.TheVariants.{Historic, Standard, Business}
 
@@ -143,26 +144,27 @@ pub total_append : (l b : List ℕ) → total (l ++ b) ≡ total l + total b
 total_append [] b = omega arith
 total_append (x ∷ l) b = omega (arith, total_append l b)
 
-pub check_from_lem : (m : Mode) (l b : List ℕ) → check_from m l (total b) ≡ check m l b
+-- bytes added up by 256 are their sum by 256
+pub folded_total : (s : ℕ) (l : List ℕ) → fold (λ (s x : ℕ). (s + x) % 256) s l % 256 ≡ (s + total l) % 256
+folded_total s [] = omega arith
+folded_total s (x ∷ l) = omega (arith, folded_total ((s + x) % 256) l)
+
+pub check_from_lem : (m : Mode) (l b : List ℕ) → check_from m l (total b % 256) ≡ check m l b
 unfolding check check_from
-check_from_lem m l b =
-    let e : total l + separator m + total b + counted_at_end m ≡ total (l ++ separator m ∷ b) + counted_at_end m =
-    omega (arith, total_append l (separator m ∷ b)) in
-    rw e
+check_from_lem m l b = omega (arith, total_append l (separator m ∷ b))
 
 -- the check character from the sum of all but the last two characters
 pub check_front : (m : Mode) (l rest : List ℕ) (front : ℕ) → FrontSum m l rest front → 2 ≤ length rest
     → (front + counted_at_end m) % 64 + 32 ≡ check m l (take (length rest - 2) rest)
 unfolding check
-check_front m l rest front f h = rw (f.front_is h)
+check_front m l rest front f h = omega (arith, f.front_is h)
 
 pub front_summed : (m : Mode) (c : List ℕ) (f front : ℕ) → ContentWalk (separator m) c f front
     → FrontSum m (take f c) (drop (f + 1) c) front
 front_summed m c f front w = record {
-  small = w.small;
   front_is = λ h.
       let n = length-drop (f + 1) c in
-      w.sum_is (omega arith) ∙ ap total (front_behind (separator m) c f w.first_is h);
+      w.sum_is (omega arith) ∙ ap (λ (c : List ℕ). total c % 256) (front_behind (separator m) c f w.first_is h);
 }
 
 -- the sum up to a place, and the sum from one place to another
@@ -183,9 +185,9 @@ total_most [] (suc n) h = omega arith
 total_most (x ∷ c) (suc n) h = omega (arith, h 0, total_most c n (λ i. h (suc i)))
 
 -- what a body's parting says, at the end that it is known to have given
-pub split_at : (m : Mode) (rule : Rule) (b : List ℕ) {given told : Parted} → Split m rule b given → given ≡ told
+pub split_at : (m : Mode) (rule : Rule) (b : List ℕ) {given told : Option ℕ} → Split m rule b given → given ≡ told
     → Split m rule b told
-split_at m rule b h e = subst (λ (p : Parted). Split m rule b p) e h
+split_at m rule b h e = subst (λ (p : Option ℕ). Split m rule b p) e h
 
 pub separator_small : (m : Mode) → separator m ≤ 32
 separator_small Historic = omega arith
