@@ -1,6 +1,6 @@
 -- What only the contracts of private functions cite: views of the definitions in the code's own types, and how the code
 -- goes about its work. No promise rests on a reader's belief in these.
-use Rattle.std.specs.Prelude.{◌≡◌, Bool, List, [], ◌∷◌, ◌++◌, ℕ, suc, ◌+◌, ◌-◌, ◌*◌, ◌%◌, ◌≤◌, T as So, length, take, drop, Result, Ok, Err, Option as StoredOption, Some, None}
+use Rattle.std.specs.Prelude.{◌≡◌, Bool, List, [], ◌∷◌, ◌++◌, ℕ, suc, ◌+◌, ◌-◌, ◌%◌, ◌≤◌, T as So, length, take, drop, Result, Ok, Err, Option as StoredOption, Some, None}
 use Rattle.std.proofs.Math.Option.{some}
 use Rattle.std.proofs.lemmas.List.Edits.{sets}
 use Rattle.characters.specs.Answers.{Answer, refused, given, pick}

@@ -17,13 +17,11 @@ fn key_by_bytes(text: &[u8], n: usize) -> u64
     requires { n ≤ length text.now }
     ensures { result ≡ key_of (take n text.now) }
 {
-    let mut key: u64 = 0;
-    let mut i = n;
-    while 0 < i {
-        i -= 1;
-        key = key / 256 + text[i] as u64 * 0x0100_0000_0000_0000;
-    }
-    key
+    let behind_first = text[..n].iter().rev();
+    behind_first.fold(
+        0,
+        |key: u64, byte| key / 256 + u64::from(*byte) * 0x0100_0000_0000_0000,
+    )
 }
 
 // Four bytes as one number.

@@ -28,12 +28,9 @@ fn eight_of_kind(kind: Kind, text: &[u8], from: usize) -> bool
     requires { from + 8 ≤ length text.now }
     ensures { result ≡ true → Pass (of_kind kind) text.now from (from + 8) }
 {
-    let end = from + 8;
     let mut right = true;
-    let mut i = from;
-    while i < end {
+    for i in from..from + 8 {
         right = right & of_kind(kind, text[i]);
-        i += 1;
     }
     right
 }
@@ -57,15 +54,12 @@ fn eights_of_kind(kind: Kind, text: &[u8]) -> usize
 pub(crate) fn wrong_at(kind: Kind, text: &[u8]) -> usize
     ensures { result ≡ wrong_at (of_kind kind) text.now }
 {
-    let mut i = eights_of_kind(kind, text);
-    while i < text.len() {
-        if of_kind(kind, text[i]) {
-            i += 1;
-        } else {
+    for i in eights_of_kind(kind, text)..text.len() {
+        if !of_kind(kind, text[i]) {
             return i;
         }
     }
-    i
+    text.len()
 }
 
 // Whether a character of a picture takes a character of data.
@@ -86,15 +80,12 @@ fn agreed(picture: &[u8], data: &[u8]) -> usize
     requires { length picture.now ≡ length «data».now }
     ensures { result ≡ agreed_of picture.now «data».now }
 {
-    let mut i = 0;
-    while i < data.len() {
-        if taken(picture[i], data[i]) {
-            i += 1;
-        } else {
+    for (i, code) in data.iter().enumerate() {
+        if !taken(picture[i], *code) {
             return i;
         }
     }
-    i
+    data.len()
 }
 
 // How far data get in a form: 0 where it has not their length, else one more than the characters that its picture takes from

@@ -14,12 +14,9 @@ fn part_between(low: &[u8], high: &[u8], data: &[u8], from: usize, count: usize)
     requires { (length low.now ≡ length «data».now) × (length high.now ≡ length «data».now) × (from + count ≤ length «data».now) }
     ensures { result ≡ true → Between low.now high.now «data».now from (from + count) }
 {
-    let end = from + count;
     let mut right = true;
-    let mut i = from;
-    while i < end {
+    for i in from..from + count {
         right = right & (low[i] <= data[i]) & (data[i] <= high[i]);
-        i += 1;
     }
     right
 }
@@ -125,14 +122,11 @@ fn surely_takes(number: usize, data: &[u8]) -> bool
 pub(crate) fn surely_fits(forms: Forms, data: &[u8]) -> bool
     ensures { result ≡ true → So (some_fits (forms_of (formats_from forms.first forms.count)) «data».now) }
 {
-    let first = forms.first as usize;
-    let count = forms.count as usize;
-    let mut i = 0;
-    while i < count {
+    let first = usize::from(forms.first);
+    for i in 0..usize::from(forms.count) {
         if surely_takes(first + i, data) {
             return true;
         }
-        i += 1;
     }
     false
 }

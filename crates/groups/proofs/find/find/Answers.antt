@@ -2,7 +2,6 @@
 use Rattle.std.proofs.Common.{◌∙◌, ap, sym, arith}
 use Rattle.std.proofs.Math.Option.{some}
 use Rattle.characters.specs.Answers.{pick}
-use Rattle.groups.specs.Formats.{Rule}
 use Rattle.groups.proofs.Search.{found_by, no_bytes, too_many}
 use Rattle.groups.proofs.find.find.Goals as goal
 use Rattle.groups.proofs.find.find.Goals.{then-n-eq0-via-then-n-eq0, then-n-eq0-via-else-n-eq0+then-n-gt9}

@@ -1,5 +1,5 @@
 -- Each answer by the tests that led to it.
-use Rattle.std.proofs.Common.{◌≡◌, ◌∙◌, sym, eq-eqb, le-leb, ne_eqb}
+use Rattle.std.proofs.Common.{◌≡◌, ◌∙◌, sym, le-leb}
 use Rattle.std.proofs.lemmas.Bool.{lt-leb}
 use Rattle.std.specs.Prelude.{true}
 use Rattle.characters.specs.Answers.{is_true, need}

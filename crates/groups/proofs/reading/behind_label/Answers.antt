@@ -1,11 +1,7 @@
 -- Each answer is the definition at the tests that led to it.
-use Rattle.groups.proofs.Views.{found_none, found_some}
 use Rattle.groups.proofs.Walks.{check_front}
-use Prim.Native.Nat.{ℕ}
 use Rattle.std.specs.Prelude.{Err}
 use Rattle.groups.proofs.Telling.{told_listed, told_nowhere}
-use Rattle.groups.specs.Table.{lookup, rows}
-use mathlib.Core.List.{List}
 use Rattle.groups.proofs.Laws.Places.{behind_checked, behind_listed, behind_open, behind_short, behind_unlisted}
 use Rattle.groups.specs.declared.Refusal.TheVariants.{CheckWrong, LabelUnknown, Misshapen}
 use lib.ListN.{length-take}

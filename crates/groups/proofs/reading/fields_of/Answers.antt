@@ -1,5 +1,5 @@
 -- The fields are cut where the stamp ends.
-use Rattle.std.proofs.Common.{◌∙◌, sym, arith, length-take-le}
+use Rattle.std.proofs.Common.{◌∙◌}
 use Rattle.groups.proofs.Walks.{to_end}
 use Rattle.groups.proofs.Telling.{told_fields, told_next}
 use Rattle.groups.specs.Stored.{rule_of}

@@ -1,12 +1,8 @@
 -- The label is looked up, and its rule decides.
-use Rattle.std.proofs.Common.{◌∙◌, ◌≡◌, ap, sym, arith, length, List, ℕ}
-use Rattle.std.specs.Prelude.{Option as StoredOption, Some, None}
-use Rattle.std.proofs.Math.Option.{none, some}
+use Rattle.std.proofs.Common.{sym, arith, length}
 use Rattle.std.proofs.Math.Seq.{take_all}
 use Rattle.groups.proofs.Laying.{listed_short, write_listed, write_unlisted, wrote_as, wrote_nothing}
 use Rattle.groups.specs.Inside.{fields_in}
-use Rattle.groups.specs.Stored.{rule_of}
-use Rattle.groups.specs.Table.{lookup, rows}
 use Rattle.groups.proofs.writing.write_in.Goals as goal
 
 pub returns-in_default : goal.returns-in_default
