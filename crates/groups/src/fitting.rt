@@ -36,6 +36,8 @@ fn eight_of_kind(kind: Kind, text: &[u8], from: usize) -> bool
 }
 
 // How many characters at the front are of the kind, by eights: the first that is not is none of them.
+// Kept beside `wrong_at`: one search over all characters takes 5 % more instructions of judging in standard mode. A `while`,
+// since a step of eight has no plainer form: `step_by` goes on into the last few.
 fn eights_of_kind(kind: Kind, text: &[u8]) -> usize
     ensures { RightUpTo (of_kind kind) text.now result }
 {
@@ -75,7 +77,8 @@ fn taken(picture: u8, code: u8) -> bool
     }
 }
 
-// How many characters of data, from the first on, a picture of their length takes.
+// How many characters of data, from the first on, a picture of their length takes. Kept as a `for`: after `zip` and `take_while`
+// the goal that `count` is `agreed_of` stays open.
 fn agreed(picture: &[u8], data: &[u8]) -> usize
     requires { length picture.now ≡ length «data».now }
     ensures { result ≡ agreed_of picture.now «data».now }

@@ -21,7 +21,8 @@ fn part_between(low: &[u8], high: &[u8], data: &[u8], from: usize, count: usize)
     right
 }
 
-// Whether all but the last eight lie between the texts, by eights: the last of these may reach into the last eight.
+// Whether all but the last eight lie between the texts, by eights: the last of these may reach into the last eight. Kept as a
+// `while`, which steps by eight.
 fn eights_between(low: &[u8], high: &[u8], data: &[u8]) -> bool
     requires { (length low.now ≡ length «data».now) × (length high.now ≡ length «data».now) }
     ensures { result ≡ true → Between low.now high.now «data».now 0 (length «data».now - 8) }

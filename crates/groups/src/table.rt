@@ -72,6 +72,7 @@ pub struct Forms {
     pub count: u8,
 }
 
+// Kept without names for its numbers, so that a row stays one line of the table.
 #[derive(Clone, Copy)]
 pub(crate) struct Row(pub u64, pub u64, pub u64);
 
@@ -333,7 +334,8 @@ pub(crate) const BUSINESS_9: [Row; 9] = [
 #[derive(Clone, Copy)]
 pub(crate) struct Form(pub usize, pub usize, pub [u8; 21]);
 
-// The form of a number; one that takes nothing where there is none.
+// The form of a number; one that takes nothing where there is none. Kept as a match: a constant array is laid out on the stack
+// wherever it is named (docs/DECISIONS.md, 48).
 pub(crate) fn form_of(number: usize) -> Form
     ensures { (form_in result ≡ form_of (format_at number)) × (result.1 ≤ 21) }
 {
