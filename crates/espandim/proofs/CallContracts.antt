@@ -1,10 +1,11 @@
 -- Two answers that one contract of an exported function allows are equal: the number, and every number and byte of what
 -- was lent. A memory has the sizes that the types of its four arrays give.
-use Rattle.std.specs.Prelude.{◌≡◌, List, ℕ}
+use Rattle.std.specs.Prelude.{◌≡◌, List, ℕ, Result}
 use Rattle.std.proofs.Common.{sym, ◌∙◌}
 use Rattle.characters.specs.Answers.{Answer}
 use Rattle.groups.specs.declared.Refusal.{Refusal}
-use Rattle.groups.specs.declared.Judgement.{Judgement}
+use Rattle.groups.specs.declared.Fields.{Fields}
+use Rattle.groups.specs.declared.Fault.{Fault}
 use Rattle.station.specs.Memory.{Memory, Sized}
 use Rattle.station.proofs.Fixed.{fixed}
 use Rattle.station.specs.History.{Call}
@@ -26,7 +27,7 @@ rounds_equal m n n' sheet after after' counts counts' number other y z a b =
     (same_number, same_memory, a.sheet_is ∙ sym b.sheet_is, a.counts_are ∙ sym b.counts_are)
 
 -- `espandim_judge`
-pub judgings_equal : (j : Judgement) (number other : ℕ) (stretches stretches' : List ℕ) (place place' : ℕ)
+pub judgings_equal : (j : Result Fields Fault) (number other : ℕ) (stretches stretches' : List ℕ) (place place' : ℕ)
     → Judges j number stretches place → Judges j other stretches' place'
     → (number ≡ other) × (stretches ≡ stretches') × (place ≡ place')
 judgings_equal j number other stretches stretches' place place' a b =

@@ -4,13 +4,12 @@
 use Rattle.std.specs.Prelude.{◌≡◌, refl, ◌≢◌, List, [], ◌∷◌, ℕ, ◌≤◌, ◌<◌, length, replicate}
 use Rattle.std.proofs.Common.{sym, ap, ap₂, ◌∙◌}
 use Rattle.groups.specs.Groups.{Group}
-use Rattle.groups.specs.Judging.{judging, shown}
-use Rattle.groups.specs.Place.{place_of}
+use Rattle.groups.specs.Judging.{shown}
+use Rattle.groups.specs.Place.{place_of, judgement}
 use Rattle.groups.proofs.Promises as groups
 use Rattle.groups.specs.Numbers.{number_of, number_of_writing}
-use Rattle.groups.specs.Writing.{writing, told, left}
+use Rattle.groups.specs.Writing.{writing, told, count_of, left}
 use Rattle.groups.proofs.Laws.Unknown.{judging_no_mode, writing_no_mode}
-use Rattle.groups.specs.declared.Judged.{Judged}
 use Rattle.station.specs.Memory.{Memory, station_in, zeros, Sized}
 use Rattle.station.proofs.Fixed.{fixed, zeros_closed}
 use Rattle.station.specs.Stations.{called}
@@ -81,22 +80,22 @@ round_no_sheet s sheet h = rw ((refusals.serves_round s sheet).1, refusals.turns
 
 -- "Refused judging shows three empty stretches"; 19 has no place
 pub judge_no_mode : (mode : ℕ) (content : List ℕ) → 3 ≤ mode
-    → (number_of (shown (judging mode content)).verdict ≡ 19)
-    × (stretches_of (shown (judging mode content)) ≡ 0 ∷ 0 ∷ 0 ∷ 0 ∷ 0 ∷ 0 ∷ [])
+    → (number_of (judgement mode content) ≡ 19)
+    × (stretches_of (judgement mode content) ≡ 0 ∷ 0 ∷ 0 ∷ 0 ∷ 0 ∷ 0 ∷ [])
     × (place_of mode content ≡ 0)
 judge_no_mode mode content h =
     let a = judging_no_mode mode h content in
-    let e = ap shown a in
-    (ap (λ (j : Judged). number_of j.verdict) e, ap stretches_of e, groups.other_place mode content (rw a tt) (rw a tt))
+    let e = ap (λ a. shown a (place_of mode content)) a in
+    (ap number_of e, ap stretches_of e, groups.other_place mode content (rw a tt) (rw a tt))
 
 -- "Every refused writing changes no lent byte."
 pub write_no_mode : (mode : ℕ) (g : Group) (buffer : List ℕ) (room : ℕ) → 3 ≤ mode
-    → (number_of_writing (told (writing mode g room)).outcome ≡ 19)
-    × ((told (writing mode g room)).count ≡ 0)
+    → (number_of_writing (told (writing mode g room)) ≡ 19)
+    × (count_of (told (writing mode g room)) ≡ 0)
     × (left (writing mode g room) buffer ≡ buffer)
 write_no_mode mode g buffer room h =
     let e = writing_no_mode mode h g room in
-    (ap (λ a. number_of_writing (told a).outcome) e, ap (λ a. (told a).count) e, ap (λ a. left a buffer) e)
+    (ap (λ a. number_of_writing (told a)) e, ap (λ a. count_of (told a)) e, ap (λ a. left a buffer) e)
 
 -- ---- Calls one after the other
 

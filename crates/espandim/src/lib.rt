@@ -7,17 +7,23 @@
 // The station lies in four arrays of the caller's; `include/espandim.h` has them in one struct, and hands each of them in.
 #![tactic(auto)]
 
-ghost use Rattle.std.specs.Prelude.{◌≡◌, length};
+ghost use Rattle.std.specs.Prelude.{◌≡◌, length, min};
 ghost use Rattle.groups.specs.Groups.{group_of};
 ghost use Rattle.groups.specs.Place.{judgement};
-ghost use Rattle.groups.specs.Writing.{writing, Wrote};
+ghost use Rattle.groups.specs.Writing.{writing};
 ghost use Rattle.station.specs.History.{opens, delivers};
 ghost use Rattle.station.specs.Memory.{behind};
 ghost use Rattle.espandim.specs.Calls.{Calls, Serves};
 ghost use Rattle.espandim.specs.OneGroup.{Judges, Writes};
 
-use groups::{Judged, Judgement, Outcome, Stretch, Verdict, Written};
 use station::{Contents, Inboxes, Marks, Places};
+
+// The byte of a number, or 255, which is neither a line nor a mode either, of one that no byte holds.
+fn byte_of(number: u32) -> u8
+    ensures { result ≡ min number 255 }
+{
+    u8::try_from(number).unwrap_or(u8::MAX)
+}
 
 // Opens a line in a mode.
 #[unsafe(no_mangle)]
@@ -32,14 +38,15 @@ pub extern "C" fn espandim_rows_open(
     ensures { Calls (behind marks.old places.old contents.now inboxes.now) (opens line mode) result
         (behind marks.new places.new contents.now inboxes.now) }
 {
-    if line < 8 {
-        if mode < 256 {
-            let reply = station::open(marks, places, contents, inboxes, line as u8, mode as u8);
-            return station::number_of(reply) as u32;
-        }
-        return 19;
-    }
-    16
+    let reply = station::open(
+        marks,
+        places,
+        contents,
+        inboxes,
+        byte_of(line),
+        byte_of(mode),
+    );
+    u32::from(station::number_of(reply))
 }
 
 // Adds bytes to the inbox of an open line, all of them or none.
@@ -55,11 +62,8 @@ pub extern "C" fn espandim_rows_deliver(
     ensures { Calls (behind marks.now places.old contents.now inboxes.old) (delivers line bytes.now) result
         (behind marks.now places.new contents.now inboxes.new) }
 {
-    if line < 8 {
-        let reply = station::deliver(marks, places, contents, inboxes, line as u8, bytes);
-        return station::number_of(reply) as u32;
-    }
-    16
+    let reply = station::deliver(marks, places, contents, inboxes, byte_of(line), bytes);
+    u32::from(station::number_of(reply))
 }
 
 // Gives each open line its turn, tells of the turns on the lent sheet, and sets the counts to how many bytes each turn
@@ -77,31 +81,8 @@ pub extern "C" fn espandim_rows_round(
         (behind marks.new places.new contents.new inboxes.now) sheet.new counts.new }
 {
     let told = station::round(marks, places, contents, inboxes, sheet);
-    let reply = told.reply;
-    let taken = told.counts;
-    *counts = taken;
-    station::number_of(reply) as u32
-}
-
-fn judged(mode: u32, content: &[u8]) -> Judgement
-    ensures { result ≡ judgement mode content.now }
-{
-    if mode < 256 {
-        return groups::judge(mode as u8, content);
-    }
-    let nowhere = Stretch {
-        start: 0,
-        length: 0,
-    };
-    Judgement {
-        judged: Judged {
-            verdict: Verdict::Refused(groups::Refusal::ModeUnknown),
-            label: nowhere,
-            stamp: nowhere,
-            data: nowhere,
-        },
-        place: 0,
-    }
+    *counts = told.unwrap_or([0; 8]);
+    u32::from(station::number_of(told))
 }
 
 // Judges the content of one group, given alone; shows where its label, stamp and data start, and their lengths; and tells the
@@ -115,37 +96,26 @@ pub extern "C" fn espandim_judge(
 ) -> u32
     ensures { Judges (judgement mode content.now) result stretches.new place.new }
 {
-    let judgement = judged(mode, content);
-    let shown = judgement.judged;
-    *place = judgement.place;
-    let verdict = shown.verdict;
-    let label = shown.label;
-    let stamp = shown.stamp;
-    let data = shown.data;
-    *stretches = [
-        label.start,
-        label.length,
-        stamp.start,
-        stamp.length,
-        data.start,
-        data.length,
-    ];
-    groups::number_of(verdict) as u32
-}
-
-fn wrote(mode: u32, label: &[u8], stamp: &[u8], data: &[u8], buffer: &mut [u8]) -> Written
-    ensures { Wrote
-        (writing mode (group_of label.now stamp.now «data».now)
-        (length buffer.old))
-        buffer.old result buffer.new }
-{
-    if mode < 256 {
-        return groups::write(mode as u8, label, stamp, data, buffer);
+    let judgement = groups::judge(byte_of(mode), content);
+    let number = groups::number_of(judgement);
+    match judgement {
+        Ok(fields) => {
+            *stretches = [
+                fields.label.start,
+                fields.label.length,
+                fields.stamp.start,
+                fields.stamp.length,
+                fields.data.start,
+                fields.data.length,
+            ];
+            *place = 0;
+        }
+        Err(fault) => {
+            *stretches = [0; 6];
+            *place = fault.place;
+        }
     }
-    Written {
-        outcome: Outcome::Refused(groups::Refusal::ModeUnknown),
-        count: 0,
-    }
+    u32::from(number)
 }
 
 // Writes LF, the content of the group with these fields, and CR, at the start of the buffer, and tells how many bytes.
@@ -163,8 +133,7 @@ pub extern "C" fn espandim_write(
         (length buffer.old))
         buffer.old result buffer.new written.new }
 {
-    let done = wrote(mode, label, stamp, data, buffer);
-    let outcome = done.outcome;
-    *written = done.count;
-    groups::number_of_writing(outcome) as u32
+    let done = groups::write(byte_of(mode), label, stamp, data, buffer);
+    *written = done.unwrap_or(0);
+    u32::from(groups::number_of_writing(done))
 }

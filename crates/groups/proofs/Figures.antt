@@ -14,9 +14,9 @@ use Rattle.groups.specs.Fields.{width_right, kind_right, checked}
 use Rattle.groups.specs.Cuts.{cut, ending}
 use Rattle.groups.specs.Groups.{check, parts, fields_of, behind_label, read}
 use Rattle.groups.specs.Numbers.{number_of}
-use Rattle.groups.specs.Judging.{judging, shown}
+use Rattle.groups.specs.Judging.{judging}
 use Rattle.groups.specs.Conditions.{first_at, label_of, body_of, data_in}
-use Rattle.groups.specs.Place.{agreed, reach, furthest, first_wrong, place_for, place_by, place_of}
+use Rattle.groups.specs.Place.{agreed, reach, furthest, first_wrong, place_for, place_by, place_of, judgement}
 use Rattle.groups.specs.declared.table.Mark.TheVariants.{Letter}
 
 -- a mode's number, a content and its answer, or its place; a stamp, right or not; a wire byte, sound or not
@@ -46,7 +46,7 @@ figures =
 
 -- what the definitions say of a figure is what document 01 says
 abbrev pub Holds : Figure → Type 0
-Holds (group number text answer) = number_of (shown (judging number (codes text))).verdict ≡ answer
+Holds (group number text answer) = number_of (judgement number (codes text)) ≡ answer
 Holds (place number text at) = place_of number (codes text) ≡ at
 Holds (stamp text right) = stamp_right Letter (codes text) ≡ right
 Holds (wire_byte byte sound) = is_sound byte ≡ sound

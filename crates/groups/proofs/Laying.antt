@@ -7,12 +7,13 @@ use Prim.Native.Nat.{ℕ, suc, ◌+◌, ◌<◌, ◌≤◌}
 use native.Mathlib.Numerals.{add-one}
 use native.Mathlib.Omega.{arith}
 use lib.Dec.{T}
+use Rattle.std.specs.Prelude.{Result, Ok, Err}
 use lib.ListN.{length, drop, get_or, set, length-append, length-map, drop_of_length-le}
 use lib.Seq.{sets, sets-eq, length-sets, drop-cons}
 use borrow.Author.Tests.{le-leb, lt-leb}
 use Rattle.characters.specs.Answers.{Answer, refused, given, need, found, pick}
 use Rattle.characters.specs.Wire.{wire_byte_of, LF, CR}
-use Rattle.groups.specs.Modes.{mode_of, separator}
+use Rattle.groups.specs.Modes.{mode_of, known_mode, separator}
 use Rattle.groups.specs.Formats.{Rule}
 use Rattle.groups.specs.Table.{rows, lookup}
 use Rattle.groups.specs.Stamps.{is_stamped, stamp_as}
@@ -24,12 +25,11 @@ use Rattle.groups.specs.Inside.{Laid, ShortRow, RightFields, stamp_room, write_b
 use Rattle.groups.proofs.Laws.Groups.{stamp_length, body_length, width_most, content_length, checked_right}
 use Rattle.groups.proofs.Laws.Table.{listed_right}
 use Rattle.groups.proofs.Walks.{total_append}
+use Rattle.groups.proofs.Views.{known_none, known_some}
 use Rattle.groups.specs.declared.Mode.{Mode}
 use Rattle.groups.specs.declared.Refusal.{Refusal}
-use Rattle.groups.specs.declared.Refusal.TheVariants.{LabelUnknown, NoRoom, ModeUnknown}
-use Rattle.groups.specs.declared.Outcome.TheVariants.{Done}
+use Rattle.groups.specs.declared.Refusal.TheVariants.{LabelUnknown, NoRoom}
 use Rattle.groups.specs.declared.table.Mark.{Mark}
-use Rattle.groups.specs.declared.Written.{Written}
 
 -- ---- Bytes set one after the other
 
@@ -144,13 +144,13 @@ module _ (m : Mode) (r : Rule) (l s d : List ℕ) (row : ShortRow r l) (f : Righ
 -- ---- The tests of the writer
 
 module _ (k : ℕ) (g : Group) (room : ℕ) where
-  pub write_nowhere : mode_of k ≡ none → writing k g room ≡ refused ModeUnknown
+  pub write_nowhere : {r : Refusal} → known_mode (mode_of k) ≡ Err r → writing k g room ≡ refused r
   unfolding writing found
-  write_nowhere e = rw e
+  write_nowhere h = let (e, r) = known_none (mode_of k) h in rw (e, r)
 
-  pub write_mode : (m : Mode) → mode_of k ≡ some m → writing k g room ≡ into room (compose m g)
+  pub write_mode : {m : Mode} → known_mode (mode_of k) ≡ Ok m → writing k g room ≡ into room (compose m g)
   unfolding writing found
-  write_mode m e = rw e
+  write_mode h = rw (known_some (mode_of k) h)
 
 module _ (m : Mode) (g : Group) (room : ℕ) where
   pub write_unlisted : lookup g.label (rows m) ≡ none → into room (compose m g) ≡ refused LabelUnknown
@@ -187,13 +187,17 @@ pub laid_marked : (m : Mode) (l s d b : List ℕ) {j k : Mark} {n : ℕ} {b' : L
 laid_marked m l s d b {n = n} {b' = b'} e h =
     subst (λ (k : Mark). Laid b 0 (on_the_wire (content m l (body m (is_stamped k) s d))) n b') e h
 
-pub wrote_as : (b : List ℕ) (w v : Answer Refusal (List ℕ)) {r : Written} {b' : List ℕ} → w ≡ v → Wrote v b r b'
+pub wrote_as : (b : List ℕ) (w v : Answer Refusal (List ℕ)) {r : Result ℕ Refusal} {b' : List ℕ} → w ≡ v → Wrote v b r b'
     → Wrote w b r b'
 wrote_as b w v {r = r} {b' = b'} e h = subst (λ (x : Answer Refusal (List ℕ)). Wrote x b r b') (sym e) h
 
+-- a refusal leaves all as it was
+pub wrote_nothing : (b : List ℕ) (w : Answer Refusal (List ℕ)) {r : Refusal} → w ≡ refused r → Wrote w b (Err r) b
+wrote_nothing b w {r = r} e = wrote_as b w (refused r) e (record { tells = refl; leaves = refl })
+
 pub wrote_laid : (b : List ℕ) (w : Answer Refusal (List ℕ)) (x : List ℕ) {n : ℕ} {b' : List ℕ} → w ≡ given x
     → length x ≤ length b → Laid b 0 x n b'
-    → Wrote w b (record { outcome = Done; count = n }) b'
+    → Wrote w b (Ok n) b'
 wrote_laid b w x {n = n} e h l =
     let z : n ≡ length x = omega (arith, l.upto) in
     wrote_as b w (given x) e (record { tells = rw z; leaves = l.bytes ∙ sets_front b x h })

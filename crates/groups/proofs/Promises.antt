@@ -1,5 +1,5 @@
 -- What the crate promises of judging and writing groups: only the statements need to be read.
-use Rattle.std.specs.Prelude.{◌≡◌, refl, ◌↔◌, not, ◌||◌, ℕ, ◌+◌, ◌^◌, ◌≤◌, ◌<◌, T, eqb, ltb, length, take, get_or}
+use Rattle.std.specs.Prelude.{◌≡◌, refl, ◌↔◌, not, ◌||◌, ℕ, ◌+◌, ◌^◌, ◌≤◌, ◌<◌, T, eqb, ltb, length, take, get_or, Ok, Err}
 use Rattle.std.proofs.Math.Option.{none, some}
 use mathlib.Core.List.{List, [], ◌∷◌, ◌++◌, map, Memᴰ}
 use Rattle.characters.specs.Answers.{given, every, first_of}
@@ -14,10 +14,10 @@ use Rattle.groups.specs.Packed.{key_of}
 use Rattle.groups.specs.Stamps.{is_stamped, stamp_right}
 use Rattle.groups.specs.Groups.{Group, group_of}
 use Rattle.groups.specs.Numbers.{number_of_refusal, number_of, number_of_writing}
-use Rattle.groups.specs.Judging.{judging, shown, part_of, part_start, Shows}
-use Rattle.groups.specs.Writing.{on_the_wire, off_the_wire, composing, writing, told, left}
+use Rattle.groups.specs.Judging.{judging, places_of, stretches_of, part_of, part_start, Shows}
+use Rattle.groups.specs.Writing.{on_the_wire, off_the_wire, composing, writing, told, count_of, left}
 use Rattle.groups.specs.Conditions.{label_of, given_when}
-use Rattle.groups.specs.Place.{first_wrong, place_of}
+use Rattle.groups.specs.Place.{first_wrong, place_of, judgement, place_told}
 use Rattle.groups.specs.FirstWrong.{Begun, FirstWrong, WrongDataAt}
 use Rattle.groups.specs.WriterConditions.{written_when, count_due, Leaves, bytes_of}
 use Rattle.groups.specs.Stretches.{six_numbers, stretches_due}
@@ -59,12 +59,10 @@ use Rattle.groups.proofs.Laws.Business.{row_made, row_lengths, plain_made, never
 use Rattle.groups.proofs.Laws.Seasons.{degraded_told, degraded_judged, peak_told, peak_judged}
 use Rattle.groups.proofs.Laws.Longest.{content_most, lists_long}
 use Rattle.groups.proofs.Laws.FirstWrong.{row_wrong, before_begun, length_unknown, kind_wrong}
-use Rattle.groups.proofs.Laws.Place.{stamp_told, data_told, data_once, others_told, inside_told, placed_small}
+use Rattle.groups.proofs.Laws.Place.{stamp_told, data_told, data_once, others_told, inside_told, placed_small, faults_placed}
 use Rattle.groups.specs.declared.Mode.{Mode}
 use Rattle.groups.specs.declared.Mode.TheVariants.{Historic, Standard, Business}
 use Rattle.groups.specs.declared.Refusal.{Refusal}
-use Rattle.groups.specs.declared.Verdict.TheVariants as verdict
-use Rattle.groups.specs.declared.Outcome.TheVariants as outcome
 use Rattle.groups.specs.declared.Stretch.{Stretch}
 use Rattle.groups.specs.declared.table.Kind.{Kind}
 use Rattle.groups.specs.declared.table.Mark.{Mark}
@@ -105,12 +103,12 @@ pub one_field_exactly : (kind : Kind) (width : ℕ) (d : List ℕ)
 one_field_exactly = plain_made
 
 -- "No row of mode 2 is stamped": the reader never answers 12 there, and the writer answers 12 to any stamp.
-pub unstamped_read : (c : List ℕ) → T (not (eqb (number_of (shown (judging 2 c)).verdict) 12))
+pub unstamped_read : (c : List ℕ) → T (not (eqb (number_of (judgement 2 c)) 12))
 unstamped_read = never_twelve
 
 pub unstamped_written : (label : List ℕ) (rule : Rule) → Memᴰ (record { label = label; rule = rule }) (rows Business)
     → (x : ℕ) (rest d : List ℕ) (room : ℕ)
-    → number_of_writing (told (writing 2 (group_of label (x ∷ rest) d) room)).outcome ≡ 12
+    → number_of_writing (told (writing 2 (group_of label (x ∷ rest) d) room)) ≡ 12
 unstamped_written = stamp_refused
 
 -- Document 02, M-107: "Keep it sorted by bytes": each label of a mode stands before all that follow it. One text stands before
@@ -160,53 +158,53 @@ stamp_exactly = stamps_agree
 -- Document 02, M-101: h and e are right wherever H and E are right. In the writer: in whatever mode, with whatever label,
 -- further digits, data and room, writing tells of the small letter what it tells of the capital.
 pub degraded_written : (number : ℕ) (season : Season) (label rest d : List ℕ) (room : ℕ)
-    → number_of_writing (told (writing number (group_of label (degraded season ∷ rest) d) room)).outcome
-    ≡ number_of_writing (told (writing number (group_of label (letter_of season ∷ rest) d) room)).outcome
+    → number_of_writing (told (writing number (group_of label (degraded season ∷ rest) d) room))
+    ≡ number_of_writing (told (writing number (group_of label (letter_of season ∷ rest) d) room))
 degraded_written number season label rest d room = degraded_told season label rest d room number
 
 -- In the reader: so does judging, of a stamped label, whatever stands behind the letter.
 pub degraded_read : (season : Season) (label rest : List ℕ) (rule : Rule)
     → Memᴰ (record { label = label; rule = rule }) (rows Standard) → T (is_stamped rule.mark)
-    → number_of (shown (judging 1 (closed (label ++ HT ∷ degraded season ∷ rest)))).verdict
-    ≡ number_of (shown (judging 1 (closed (label ++ HT ∷ letter_of season ∷ rest)))).verdict
+    → number_of (judgement 1 (closed (label ++ HT ∷ degraded season ∷ rest)))
+    ≡ number_of (judgement 1 (closed (label ++ HT ∷ letter_of season ∷ rest)))
 degraded_read season label rest rule listed = degraded_judged label rule (found_listed Standard label rule listed) season rest
 
 -- And they stay wrong for DPM and FPM, as all but a space is: 12, in the writer and in the reader.
 pub peaks_written : (label : List ℕ) (x : ℕ) (rest d : List ℕ) (room : ℕ) → T (is_peak label) → T (not (eqb x 0x20))
-    → number_of_writing (told (writing 1 (group_of label (x ∷ rest) d) room)).outcome ≡ 12
+    → number_of_writing (told (writing 1 (group_of label (x ∷ rest) d) room)) ≡ 12
 peaks_written = peak_told
 
 pub peaks_read : (label : List ℕ) (x : ℕ) (rest : List ℕ) → T (is_peak label) → T (not (eqb x 0x20))
     → length (closed (label ++ HT ∷ x ∷ rest)) ≤ 128
-    → number_of (shown (judging 1 (closed (label ++ HT ∷ x ∷ rest)))).verdict ≡ 12
+    → number_of (judgement 1 (closed (label ++ HT ∷ x ∷ rest))) ≡ 12
 peaks_read = peak_judged
 
 -- The number that judging tells is that of the first condition that holds, in document 01's order, and 1 where none does.
 pub refused_exactly : (number : ℕ) (c : List ℕ)
-    → number_of (shown (judging number c)).verdict ≡ first_of 1 (given_when number c)
+    → number_of (judgement number c) ≡ first_of 1 (given_when number c)
 refused_exactly = judged_first
 
 -- The number that writing tells is that of the first condition that holds, in the writer's order, and 0 where none does.
 pub writer_refused_exactly : (number : ℕ) (g : Group) (room : ℕ)
-    → number_of_writing (told (writing number g room)).outcome ≡ first_of 0 (written_when number g room)
+    → number_of_writing (told (writing number g room)) ≡ first_of 0 (written_when number g room)
 writer_refused_exactly = written_first
 
 -- A refusal has one number, whether judging or writing tells it.
 pub numbers_exactly : (refusal : Refusal)
-    → (number_of (verdict.Refused refusal) ≡ number_of_refusal refusal)
-    × (number_of_writing (outcome.Refused refusal) ≡ number_of_refusal refusal)
-numbers_exactly refusal = (refl, refl)
+    → ((place : ℕ) → number_of (Err (record { refusal = refusal; place = place })) ≡ number_of_refusal refusal)
+    × (number_of_writing (Err refusal) ≡ number_of_refusal refusal)
+numbers_exactly refusal = (λ place. refl, refl)
 
 -- Document 02, M-104: "Let judging a group also tell a place in the content, counted from 0". For 12 it is "the first character
 -- after the label's separator": what stands before it is the label and its separator.
 pub stamp_place : (number : ℕ) (m : Mode) → mode_of number ≡ some m → (c : List ℕ)
-    → number_of (shown (judging number c)).verdict ≡ 12 → take (place_of number c) c ≡ label_of m c ++ separator m ∷ []
+    → number_of (judgement number c) ≡ 12 → take (place_of number c) c ≡ label_of m c ++ separator m ∷ []
 stamp_place = stamp_told
 
 -- "for 14 the first wrong data character (mode 2: the first that no fitting data of that length have there after the same
 -- beginning)": one sentence for all modes, since a row of modes 0 and 1 is the case of one field.
 pub data_place : (number : ℕ) (m : Mode) → mode_of number ≡ some m → (c : List ℕ)
-    → number_of (shown (judging number c)).verdict ≡ 14 → WrongDataAt m c (place_of number c)
+    → number_of (judgement number c) ≡ 14 → WrongDataAt m c (place_of number c)
 data_place = data_told
 
 -- A content has one such place.
@@ -215,19 +213,23 @@ one_place = data_once
 
 -- "for all others 0"
 pub other_place : (number : ℕ) (c : List ℕ)
-    → T (not (eqb (number_of (shown (judging number c)).verdict) 12))
-    → T (not (eqb (number_of (shown (judging number c)).verdict) 14))
+    → T (not (eqb (number_of (judgement number c)) 12))
+    → T (not (eqb (number_of (judgement number c)) 14))
     → place_of number c ≡ 0
 other_place = others_told
 
 -- The place of 12 and of 14 lies inside the content, in front of the check character; and it fits a byte.
 pub place_inside : (number : ℕ) (m : Mode) → mode_of number ≡ some m → (c : List ℕ)
-    → T (eqb (number_of (shown (judging number c)).verdict) 12 || eqb (number_of (shown (judging number c)).verdict) 14)
+    → T (eqb (number_of (judgement number c)) 12 || eqb (number_of (judgement number c)) 14)
     → place_of number c + 2 ≤ length c
 place_inside = inside_told
 
 pub place_small : (number : ℕ) (c : List ℕ) → place_of number c < 128
 place_small = placed_small
+
+-- It stands in a refused judgement beside the refusal; an accepted one tells none, which counts as 0.
+pub place_exactly : (number : ℕ) (c : List ℕ) → place_told (judgement number c) ≡ place_of number c
+place_exactly = faults_placed
 
 -- In data that are long enough for a row and don't fit it, the definition finds the first wrong character, and no other.
 pub first_wrong_exactly : (m : Mode) (label : List ℕ) (rule : Rule) → Memᴰ (record { label = label; rule = rule }) (rows m)
@@ -254,11 +256,11 @@ no_such_length = length_unknown
 
 -- The stretches that judging shows of an accepted content are its label, its stamp and its data.
 pub fields_shown : (number : ℕ) (c : List ℕ) (g : Group) → judging number c ≡ given g
-    → Shows c (shown (judging number c)) g
+    → (judgement number c ≡ Ok (places_of g)) × Shows c (places_of g) g
 fields_shown = shows
 
 -- They stand where the places of the content say; of a refused content there are three empty ones.
-pub stretches_exactly : (number : ℕ) (c : List ℕ) → six_numbers (shown (judging number c)) ≡ stretches_due number c
+pub stretches_exactly : (number : ℕ) (c : List ℕ) → six_numbers (stretches_of (judgement number c)) ≡ stretches_due number c
 stretches_exactly = judged_stretches
 
 -- The part that a stretch names begins where the stretch begins and has its bytes; where it does not fit, it is the empty
@@ -279,7 +281,7 @@ pub written_reads_back : (number : ℕ) (g : Group) (room : ℕ) (w : List ℕ) 
 written_reads_back = written_back
 
 -- The count that writing tells is that of the bytes for which room was asked, and 0 where it refuses.
-pub count_exactly : (number : ℕ) (g : Group) (room : ℕ) → (told (writing number g room)).count ≡ count_due number g room
+pub count_exactly : (number : ℕ) (g : Group) (room : ℕ) → count_of (told (writing number g room)) ≡ count_due number g room
 count_exactly = written_counted
 
 -- A buffer begins with the bytes that are written, and the rest is unchanged; where writing refuses, all of it is.

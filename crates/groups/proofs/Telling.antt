@@ -1,33 +1,34 @@
 -- What is told with a place, at each step of the reader.
 use mathlib.Core.Path.{◌≡◌, refl, sym, ◌∙◌}
 use mathlib.Core.Bool.{Bool, true, false, not}
-use mathlib.Core.Option.{none, some}
+use mathlib.Core.Option.{some}
 use mathlib.Core.List.{List}
 use Prim.Native.Nat.{ℕ, ◌+◌, ◌-◌, ◌<◌, ◌≤◌}
 use native.Mathlib.Omega.{arith}
 use lib.Dec.{T, eqb}
+use Rattle.std.specs.Prelude.{Ok, Err}
 use lib.ListN.{length, take, drop, length-drop}
 use lib.Seq.{length-take-le}
 use Rattle.characters.specs.Answers.{Answer, refused, given, pick}
-use Rattle.groups.specs.Modes.{mode_of, separator}
+use Rattle.groups.specs.Modes.{mode_of, known_mode, separator}
 use Rattle.groups.specs.Formats.{Rule}
 use Rattle.groups.specs.Table.{lookup, rows}
 use Rattle.groups.specs.Stamps.{is_stamped}
 use Rattle.groups.specs.Fields.{checked}
 use Rattle.groups.specs.Groups.{Group, group_of, fields_of, behind_label, read}
 use Rattle.groups.specs.Numbers.{number_of_refusal}
-use Rattle.groups.specs.Judging.{stamp_span}
+use Rattle.groups.specs.Judging.{places_of, stamp_span}
 use Rattle.groups.specs.Conditions.{first_at, label_of, body_of, data_in}
 use Rattle.groups.specs.Place.{place_for, place_by, place_of, judgement}
-use Rattle.groups.specs.Inside.{refused_at, accepted_as, told_at, finished, told_of, told_behind, judged_in, stamp_room}
+use Rattle.groups.specs.Inside.{refused_at, told_at, finished, told_of, told_behind, judged_in, stamp_room}
 use Rattle.groups.proofs.Laws.Tests.{split}
 use Rattle.groups.proofs.Laws.Places.{behind_short, read_cut}
 use Rattle.groups.proofs.Laws.Conditions.{rest_front}
 use Rattle.groups.proofs.Laws.Place.{no_place}
-use Rattle.groups.proofs.Views.{in_mode, no_mode}
+use Rattle.groups.proofs.Views.{in_mode, no_mode, known_none, known_some}
 use Rattle.groups.specs.declared.Mode.{Mode}
 use Rattle.groups.specs.declared.Refusal.{Refusal}
-use Rattle.groups.specs.declared.Refusal.TheVariants.{Misshapen, StampWrong, ModeUnknown}
+use Rattle.groups.specs.declared.Refusal.TheVariants.{Misshapen, StampWrong}
 
 module _ (a : Answer Refusal Group) (next wrong : ℕ) where
   -- a refusal that is neither 12 nor 14 tells 0
@@ -45,8 +46,7 @@ module _ (a : Answer Refusal Group) (next wrong : ℕ) where
       → refused_at r place ≡ told_at a next wrong
   told_refused r place p e = rw (e, p)
 
-  pub told_accepted : (g : Group) → a ≡ given g → accepted_as g ≡ told_at a next wrong
-  unfolding place_for pick
+  pub told_accepted : (g : Group) → a ≡ given g → Ok (places_of g) ≡ told_at a next wrong
   told_accepted g e = rw e
 
 -- data stand behind the stamp and its separator
@@ -59,7 +59,7 @@ data_behind false b = refl
 pub told_fields : (m : Mode) (rule : Rule) (label b : List ℕ) (end : ℕ) → end ≤ length b
     → stamp_span end ≡ stamp_room (is_stamped rule.mark)
     → fields_of m rule label b ≡ checked rule (take end b) (drop (stamp_span end) b) (group_of label (take end b) (drop (stamp_span end) b))
-    → finished rule label (take end b) (drop (stamp_span end) b) ≡ told_of m rule label b
+    → finished rule (group_of label (take end b) (drop (stamp_span end) b)) ≡ told_of m rule label b
 told_fields m rule label b end h s e =
     rw (e, length-take-le end b h, data_behind (is_stamped rule.mark) b, ← s)
 
@@ -87,10 +87,10 @@ told_cut m c at e h k z =
     ∙ told_nowhere (read m c) _ _ Misshapen tt tt (cut ∙ no))
 
 -- a mode that there is, and one that there is not
-pub told_in : (number : ℕ) (m : Mode) (c : List ℕ) → mode_of number ≡ some m → judged_in m c ≡ judgement number c
+pub told_in : (number : ℕ) {m : Mode} (c : List ℕ) → known_mode (mode_of number) ≡ Ok m → judged_in m c ≡ judgement number c
 unfolding place_of place_by
-told_in number m c e = rw (in_mode number c m e, e)
+told_in number {m} c h = let e = known_some (mode_of number) h in rw (in_mode number c m e, e)
 
-pub told_no_mode : (number : ℕ) (c : List ℕ) → mode_of number ≡ none → refused_at ModeUnknown 0 ≡ judgement number c
+pub told_no_mode : (number : ℕ) {r : Refusal} (c : List ℕ) → known_mode (mode_of number) ≡ Err r → refused_at r 0 ≡ judgement number c
 unfolding place_of
-told_no_mode number c e = rw (no_mode number c e, e)
+told_no_mode number c h = let (e, r) = known_none (mode_of number) h in rw (r, no_mode number c e, e)

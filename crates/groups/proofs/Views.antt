@@ -1,70 +1,63 @@
 -- From the code's own types back to the definitions.
-use mathlib.Core.Path.{◌≡◌, refl, sym, ap, ◌∙◌}
+use mathlib.Core.Path.{◌≡◌, refl, ap}
 use mathlib.Core.Bool.{Bool, true, false}
 use mathlib.Core.Option.{Option, none, some}
 use mathlib.Core.List.{List}
+use Rattle.std.specs.Prelude.{Ok, Err, is_ok}
 use lib.ListN.{length}
 use Prim.Native.Nat.{ℕ}
 use Rattle.characters.specs.Answers.{Answer, refused, given, need, found}
 use Rattle.groups.specs.Formats.{Rule}
 use Rattle.groups.specs.Fields.{checked, width_right, kind_right}
 use Rattle.groups.specs.Stamps.{stamp_right}
-use Rattle.groups.specs.Modes.{mode_of, is_known}
+use Rattle.groups.specs.Modes.{mode_of, is_known, known_mode}
 use Rattle.groups.specs.Groups.{read}
 use Rattle.groups.specs.Judging.{judging}
-use Rattle.groups.specs.Stored.{rule_of, rule_found}
-use Rattle.groups.specs.Inside.{chosen_of, verdict_of, RightFields}
+use Rattle.groups.specs.Inside.{result_of, RightFields}
 use Rattle.groups.proofs.Laws.Tests.{zero_is_not_one}
 use Rattle.groups.proofs.Laws.Groups.{checked_given}
 use Rattle.groups.specs.declared.Mode.{Mode}
 use Rattle.groups.specs.declared.Refusal.{Refusal}
 use Rattle.groups.specs.declared.Refusal.TheVariants.{StampWrong, WidthWrong, KindWrong, ModeUnknown}
-use Rattle.groups.specs.declared.Verdict.TheVariants.{Accepted, Refused}
-use Rattle.groups.specs.declared.modes.Chosen.TheVariants.{Known, Unknown}
-use Rattle.groups.specs.declared.find.Found.{Found}
-use Rattle.groups.specs.declared.find.Found.TheVariants.{Listed, Unlisted}
-use Rattle.groups.specs.declared.table.Rule.{Rule as StoredRule}
 
-pub chosen_none : (o : Option Mode) → chosen_of o ≡ Unknown → o ≡ none
-chosen_none none e = refl
-chosen_none (some m) e = let z : ◌≡◌ {A = ℕ} 0 1 = cc in absurd (zero_is_not_one z)
+pub known_is_ok : (o : Option Mode) → is_ok (known_mode o) ≡ is_known o
+known_is_ok none = refl
+known_is_ok (some m) = refl
 
-pub chosen_some : (o : Option Mode) (m : Mode) → chosen_of o ≡ Known m → o ≡ some m
-chosen_some none m e = let z : ◌≡◌ {A = ℕ} 0 1 = cc in absurd (zero_is_not_one z)
-chosen_some (some n) m e = cc
+pub known_none : (o : Option Mode) {refusal : Refusal} → known_mode o ≡ Err refusal → (o ≡ none) × (refusal ≡ ModeUnknown)
+known_none none e = (refl, cc)
+known_none (some m) e = let z : ◌≡◌ {A = ℕ} 0 1 = cc in absurd (zero_is_not_one z)
 
-pub found_none : {f : Found} {o : Option Rule} → rule_found f ≡ o → f ≡ Unlisted → o ≡ none
-found_none e u = sym e ∙ ap rule_found u
-
-pub found_some : {f : Found} {o : Option Rule} (r : StoredRule) → rule_found f ≡ o → f ≡ Listed r → o ≡ some (rule_of r)
-found_some r e u = sym e ∙ ap rule_found u
+pub known_some : (o : Option Mode) {m : Mode} → known_mode o ≡ Ok m → o ≡ some m
+known_some none e = let z : ◌≡◌ {A = ℕ} 0 1 = cc in absurd (zero_is_not_one z)
+known_some (some n) e = cc
 
 -- a value that is accepted is given; a refusal is the same whatever value was asked for
-verdict_given : {A : Type 0} (a : Answer Refusal A) → verdict_of a ≡ Accepted → (b : A) × (a ≡ given b)
-verdict_given (refused n) e = let z : ◌≡◌ {A = ℕ} 0 1 = cc in absurd (zero_is_not_one z)
-verdict_given (given b) e = (b, refl)
+result_given : {A : Type 0} (a : Answer Refusal A) (b : A) → result_of a ≡ Ok b → a ≡ given b
+result_given (refused n) b e = let z : ◌≡◌ {A = ℕ} 0 1 = cc in absurd (zero_is_not_one z)
+result_given (given k) b e = let z : k ≡ b = cc in ap given z
 
-verdict_refused : {A : Type 0} (a : Answer Refusal A) (n : Refusal) → verdict_of a ≡ Refused n → a ≡ refused n
-verdict_refused (refused k) n e = let z : k ≡ n = cc in ap refused z
-verdict_refused (given b) n e = let z : ◌≡◌ {A = ℕ} 0 1 = cc in absurd (zero_is_not_one z)
+result_refused : {A : Type 0} (a : Answer Refusal A) (n : Refusal) → result_of a ≡ Err n → a ≡ refused n
+result_refused (refused k) n e = let z : k ≡ n = cc in ap refused z
+result_refused (given b) n e = let z : ◌≡◌ {A = ℕ} 0 1 = cc in absurd (zero_is_not_one z)
 
-pub fit_right : {A : Type 0} (r : Rule) (s d : List ℕ) (a : A) → verdict_of (checked r s d a) ≡ Accepted
+pub fit_right : {A : Type 0} (r : Rule) (s d : List ℕ) (a : A) → result_of (checked r s d a) ≡ Ok a
     → RightFields r s d
-fit_right r s d a e = (checked_given r s d a (verdict_given (checked r s d a) e).1).0
+fit_right r s d a e = (checked_given r s d a (result_given (checked r s d a) a e)).0
 
 pub fit_wrong : {A B : Type 0} (r : Rule) (s d : List ℕ) (a : A) (b : B) (n : Refusal)
-    → verdict_of (checked r s d a) ≡ Refused n → checked r s d b ≡ refused n
+    → result_of (checked r s d a) ≡ Err n → checked r s d b ≡ refused n
 unfolding checked need
 fit_wrong {A} {B} r s d a b n e =
-    verdict_refused (checked r s d b) n (sym (alike (stamp_right r.mark s) (width_right r (length d)) (kind_right r d)) ∙ e)
+    result_refused (checked r s d b) n (alike (stamp_right r.mark s) (width_right r (length d)) (kind_right r d) e)
   where
     alike : (x y z : Bool)
-        → verdict_of {A = A} (need x StampWrong (need y WidthWrong (need z KindWrong (given a))))
-        ≡ verdict_of {A = B} (need x StampWrong (need y WidthWrong (need z KindWrong (given b))))
-    alike true true true = refl
-    alike true true false = refl
-    alike true false z = refl
-    alike false y z = refl
+        → result_of (need x StampWrong (need y WidthWrong (need z KindWrong (given a)))) ≡ Err n
+        → result_of (need x StampWrong (need y WidthWrong (need z KindWrong (given b)))) ≡ Err n
+    alike true true true e = let z : ◌≡◌ {A = ℕ} 0 1 = cc in absurd (zero_is_not_one z)
+    alike true true false e = let z : KindWrong ≡ n = cc in ap Err z
+    alike true false z e = let y : WidthWrong ≡ n = cc in ap Err y
+    alike false y z e = let x : StampWrong ≡ n = cc in ap Err x
 
 pub in_mode : (k : ℕ) (c : List ℕ) (m : Mode) → mode_of k ≡ some m → judging k c ≡ read m c
 unfolding judging found
@@ -73,9 +66,3 @@ in_mode k c m e = rw e
 pub no_mode : (k : ℕ) (c : List ℕ) → mode_of k ≡ none → judging k c ≡ refused ModeUnknown
 unfolding judging found
 no_mode k c e = rw e
-
-pub known_some : (o : Option Mode) (m : Mode) → chosen_of o ≡ Known m → true ≡ is_known o
-known_some o m e = ap is_known (sym (chosen_some o m e))
-
-pub known_none : (o : Option Mode) → chosen_of o ≡ Unknown → false ≡ is_known o
-known_none o e = ap is_known (sym (chosen_none o e))

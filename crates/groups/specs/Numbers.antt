@@ -1,5 +1,6 @@
 -- Document 01's numbers ("Numbers") for each case of the answers.
-use Rattle.std.specs.Prelude.{ℕ}
+use Rattle.std.specs.Prelude.{ℕ, Result, Ok, Err}
+use Rattle.characters.specs.Answers.{Answer, refused, given}
 use Rattle.groups.specs.declared.Refusal.{Refusal}
 use Rattle.groups.specs.declared.Refusal.TheVariants.{
   TooLong,
@@ -12,10 +13,8 @@ use Rattle.groups.specs.declared.Refusal.TheVariants.{
   NoRoom,
   ModeUnknown,
 }
-use Rattle.groups.specs.declared.Verdict.{Verdict}
-use Rattle.groups.specs.declared.Verdict.TheVariants as verdict
-use Rattle.groups.specs.declared.Outcome.{Outcome}
-use Rattle.groups.specs.declared.Outcome.TheVariants as outcome
+use Rattle.groups.specs.declared.Fields.{Fields}
+use Rattle.groups.specs.declared.Fault.{Fault}
 
 abbrev pub number_of_refusal : Refusal → ℕ
 number_of_refusal TooLong = 8
@@ -29,11 +28,16 @@ number_of_refusal NoRoom = 15
 number_of_refusal ModeUnknown = 19
 
 -- "1: group accepted"
-abbrev pub number_of : Verdict → ℕ
-number_of verdict.Accepted = 1
-number_of (verdict.Refused refusal) = number_of_refusal refusal
+abbrev pub number_of : Result Fields Fault → ℕ
+number_of (Ok fields) = 1
+number_of (Err fault) = number_of_refusal fault.refusal
 
 -- "0: .. writing .. that is not refused"
-abbrev pub number_of_writing : Outcome → ℕ
-number_of_writing outcome.Done = 0
-number_of_writing (outcome.Refused refusal) = number_of_refusal refusal
+abbrev pub number_of_writing : Result ℕ Refusal → ℕ
+number_of_writing (Ok count) = 0
+number_of_writing (Err refusal) = number_of_refusal refusal
+
+-- of an answer, where n is the number of any value
+abbrev pub number_as : {A : Type 0} → ℕ → Answer Refusal A → ℕ
+number_as n (refused refusal) = number_of_refusal refusal
+number_as n (given a) = n

@@ -1,18 +1,19 @@
 -- Where a refused content went wrong (document 02, M-104): "Let judging a group also tell a place in the content, counted from
--- 0". The place stands beside the verdict, which it changes nothing of.
+-- 0". The place stands beside the refusal, which it changes nothing of.
 use Rattle.std.proofs.Math.Option.{Option, none, some}
-use Rattle.std.specs.Prelude.{List, [], ◌∷◌, ℕ, suc, ◌+◌, ◌-◌, max, eqb, length}
+use Rattle.std.specs.Prelude.{List, [], ◌∷◌, ℕ, suc, ◌+◌, ◌-◌, max, eqb, length, Result, Ok, Err}
 use Rattle.characters.specs.Answers.{pick}
 use Rattle.groups.specs.Modes.{mode_of, separator}
 use Rattle.groups.specs.Forms.{Form, takes, last_of, has_length}
 use Rattle.groups.specs.Formats.{Rule, forms}
 use Rattle.groups.specs.Table.{lookup, rows}
 use Rattle.groups.specs.Stamps.{is_stamped}
-use Rattle.groups.specs.Numbers.{number_of}
+use Rattle.groups.specs.Numbers.{number_as}
 use Rattle.groups.specs.Judging.{judging, shown}
 use Rattle.groups.specs.Conditions.{first_at, label_of, body_of, data_in}
 use Rattle.groups.specs.declared.Mode.{Mode}
-use Rattle.groups.specs.declared.Judgement.{Judgement}
+use Rattle.groups.specs.declared.Fields.{Fields}
+use Rattle.groups.specs.declared.Fault.{Fault}
 
 -- ---- The first wrong data character, by pictures; `FirstWrong.antt` has it in document 02's words
 
@@ -63,8 +64,13 @@ place_in (some m) c n = place_by m c n
 
 -- the place that judging tells, by the number that it tells
 unfoldable pub place_of : ℕ → List ℕ → ℕ
-place_of number c = place_in (mode_of number) c (number_of (shown (judging number c)).verdict)
+place_of number c = place_in (mode_of number) c (number_as 1 (judging number c))
 
 -- all that judging tells
-abbrev pub judgement : ℕ → List ℕ → Judgement
-judgement number c = record { judged = shown (judging number c); place = place_of number c }
+abbrev pub judgement : ℕ → List ℕ → Result Fields Fault
+judgement number c = shown (judging number c) (place_of number c)
+
+-- the place of a judgement: 0 where it is no refusal
+abbrev pub place_told : Result Fields Fault → ℕ
+place_told (Ok fields) = 0
+place_told (Err fault) = fault.place

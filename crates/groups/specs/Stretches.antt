@@ -8,16 +8,16 @@ use Rattle.groups.specs.Table.{rows, lookup}
 use Rattle.groups.specs.Conditions.{first_at, final_place, label_of, conditions}
 use Rattle.groups.specs.declared.Mode.{Mode}
 use Rattle.groups.specs.declared.Mode.TheVariants.{Historic, Standard, Business}
-use Rattle.groups.specs.declared.Judged.{Judged}
+use Rattle.groups.specs.declared.Fields.{Fields}
 use Rattle.groups.specs.declared.table.Mark.{Mark}
 use Rattle.groups.specs.declared.table.Mark.TheVariants.{Unstamped, Letter, Space}
 
 -- start and length of label, stamp and data
-abbrev pub six_numbers : Judged → List ℕ
-six_numbers j =
-    j.label.start ∷ j.label.length
-    ∷ j.stamp.start ∷ j.stamp.length
-    ∷ j.«data».start ∷ j.«data».length
+abbrev pub six_numbers : Fields → List ℕ
+six_numbers f =
+    f.label.start ∷ f.label.length
+    ∷ f.stamp.start ∷ f.stamp.length
+    ∷ f.«data».start ∷ f.«data».length
     ∷ []
 
 -- "Refused judging shows three empty stretches."

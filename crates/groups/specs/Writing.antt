@@ -1,14 +1,12 @@
 -- "Writing: from mode, label, stamp and data, LF, content and CR as sound wire bytes at the start of a lent buffer, the
 -- rest unchanged."
-use Rattle.std.specs.Prelude.{◌≡◌, List, [], ◌∷◌, ◌++◌, map, ℕ, ◌-◌, leb, length, take, drop}
+use Rattle.std.specs.Prelude.{◌≡◌, List, [], ◌∷◌, ◌++◌, map, ℕ, ◌-◌, leb, length, take, drop, Result, Ok, Err}
 use Rattle.characters.specs.Answers.{Answer, refused, given, need, found}
 use Rattle.characters.specs.Wire.{character_of, wire_byte_of, LF, CR}
 use Rattle.groups.specs.Modes.{mode_of}
 use Rattle.groups.specs.Groups.{Group, compose}
 use Rattle.groups.specs.declared.Refusal.{Refusal}
 use Rattle.groups.specs.declared.Refusal.TheVariants.{NoRoom, ModeUnknown}
-use Rattle.groups.specs.declared.Outcome.TheVariants.{Done, Refused}
-use Rattle.groups.specs.declared.Written.{Written}
 
 -- "LF, content and CR as sound wire bytes"
 unfoldable pub on_the_wire : List ℕ → List ℕ
@@ -31,10 +29,15 @@ into room (given c) = need (leb (length (on_the_wire c)) room) NoRoom (given (on
 unfoldable pub writing : ℕ → Group → ℕ → Answer Refusal (List ℕ)
 writing number g room = found (mode_of number) ModeUnknown λ m. into room (compose m g)
 
--- "The writer also tells how many bytes it wrote, 0 when it refuses."
-abbrev pub told : Answer Refusal (List ℕ) → Written
-told (refused refusal) = record { outcome = Refused refusal; count = 0 }
-told (given bytes) = record { outcome = Done; count = length bytes }
+-- "The writer also tells how many bytes it wrote"
+abbrev pub told : Answer Refusal (List ℕ) → Result ℕ Refusal
+told (refused refusal) = Err refusal
+told (given bytes) = Ok (length bytes)
+
+-- "0 when it refuses"
+abbrev pub count_of : Result ℕ Refusal → ℕ
+count_of (Ok count) = count
+count_of (Err refusal) = 0
 
 -- the buffer afterwards: "Every refused writing changes no lent byte."
 abbrev pub left : Answer Refusal (List ℕ) → List ℕ → List ℕ
@@ -42,6 +45,6 @@ left (refused refusal) buffer = buffer
 left (given bytes) buffer = bytes ++ drop (length bytes) buffer
 
 -- what a writing does: it tells this, and leaves this of the buffer
-pub record Wrote (answer : Answer Refusal (List ℕ)) (before : List ℕ) (result : Written) (after : List ℕ) : Type 0 where
+pub record Wrote (answer : Answer Refusal (List ℕ)) (before : List ℕ) (result : Result ℕ Refusal) (after : List ℕ) : Type 0 where
   pub tells : result ≡ told answer
   pub leaves : after ≡ left answer before

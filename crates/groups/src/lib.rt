@@ -1,8 +1,9 @@
 // One group: the table of labels, the reader and the writer.
 #![tactic(auto)]
 
-mod fields;
 mod find;
+mod fitting;
+mod group;
 mod modes;
 mod quick;
 mod reading;
@@ -13,36 +14,32 @@ mod writing;
 ghost use Rattle.std.specs.Prelude.{◌≡◌, length};
 ghost use Rattle.groups.specs.Modes.{is_mode};
 ghost use Rattle.groups.specs.Groups.{group_of};
-ghost use Rattle.groups.specs.Judging.{judging, shown, Part};
-ghost use Rattle.groups.specs.Place.{place_of};
+ghost use Rattle.groups.specs.Judging.{Part};
+ghost use Rattle.groups.specs.Place.{judgement};
 ghost use Rattle.groups.specs.Numbers.{number_of, number_of_refusal, number_of_writing};
 ghost use Rattle.groups.specs.Writing.{writing, Wrote};
 
-#[derive(Clone, Copy)]
+use group::Group;
+
+#[derive(Clone, Copy, PartialEq, Eq)]
 pub enum Mode {
     Historic,
     Standard,
     Business,
 }
 
-// Why a group, or its fields, are refused.
-#[derive(Clone, Copy)]
+// Why a group, or its fields, are refused, with document 01's numbers.
+#[derive(Clone, Copy, PartialEq, Eq)]
 pub enum Refusal {
-    TooLong,
-    Misshapen,
-    CheckWrong,
-    LabelUnknown,
-    StampWrong,
-    WidthWrong,
-    KindWrong,
-    NoRoom,
-    ModeUnknown,
-}
-
-#[derive(Clone, Copy)]
-pub enum Verdict {
-    Accepted,
-    Refused(Refusal),
+    TooLong = 8,
+    Misshapen = 9,
+    CheckWrong = 10,
+    LabelUnknown = 11,
+    StampWrong = 12,
+    WidthWrong = 13,
+    KindWrong = 14,
+    NoRoom = 15,
+    ModeUnknown = 19,
 }
 
 // A part of the content: `length` bytes from place `start` on.
@@ -52,56 +49,42 @@ pub struct Stretch {
     pub length: usize,
 }
 
-// What judging shows: the verdict, and where in the content the three fields stand.
+// Where in the content the three fields of an accepted group stand.
 #[derive(Clone, Copy)]
-pub struct Judged {
-    pub verdict: Verdict,
+pub struct Fields {
     pub label: Stretch,
     pub stamp: Stretch,
     pub data: Stretch,
 }
 
-// What judging tells: what it shows, and the place in the content, counted from 0, where a refused stamp or refused data
-// went wrong (M-104); 0 where the verdict is another.
+// Why a content is refused, and the place in it, counted from 0, where a refused stamp or refused data went wrong (M-104); 0
+// with every other refusal.
 #[derive(Clone, Copy)]
-pub struct Judgement {
-    pub judged: Judged,
+pub struct Fault {
+    pub refusal: Refusal,
     pub place: usize,
 }
 
-#[derive(Clone, Copy)]
-pub enum Outcome {
-    Done,
-    Refused(Refusal),
-}
+impl From<Refusal> for Fault {
+    ghost from_gives = { λ refusal fault. fault ≡ record { refusal = refusal; place = 0 } };
 
-// What writing tells: how it ended, and how many bytes it wrote.
-#[derive(Clone, Copy)]
-pub struct Written {
-    pub outcome: Outcome,
-    pub count: usize,
+    fn from(refusal: Refusal) -> Fault {
+        Fault { refusal, place: 0 }
+    }
 }
 
 // Whether a number is that of a mode.
 pub fn is_mode(number: u8) -> bool
     ensures { result ≡ is_mode number }
 {
-    let chosen = modes::mode_of(number);
-    match chosen {
-        modes::Chosen::Known(_) => true,
-        modes::Chosen::Unknown => false,
-    }
+    Mode::try_from(number).is_ok()
 }
 
 // Judges the content of one group, given alone, in the mode of this number.
-pub fn judge(mode: u8, content: &[u8]) -> Judgement
-    ensures { result ≡ record { judged = shown (judging mode content.now); place = place_of mode content.now } }
+pub fn judge(mode: u8, content: &[u8]) -> Result<Fields, Fault>
+    ensures { result ≡ judgement mode content.now }
 {
-    let chosen = modes::mode_of(mode);
-    match chosen {
-        modes::Chosen::Known(known) => reading::read(known, content),
-        modes::Chosen::Unknown => reading::refuse(Refusal::ModeUnknown, 0),
-    }
+    reading::read(Mode::try_from(mode)?, content)
 }
 
 // The part of the caller's own bytes that a stretch names; the empty part at their start where it does not fit.
@@ -120,34 +103,37 @@ pub fn part(content: &[u8], stretch: Stretch) -> &[u8]
     &content[start..end]
 }
 
-// Writes LF, the content of the group with these fields, and CR, as sound wire bytes, at the start of the buffer.
-pub fn write(mode: u8, label: &[u8], stamp: &[u8], data: &[u8], buffer: &mut [u8]) -> Written
+// Writes LF, the content of the group with these fields, and CR, as sound wire bytes, at the start of the buffer, and tells how
+// many bytes these are.
+pub fn write(
+    mode: u8,
+    label: &[u8],
+    stamp: &[u8],
+    data: &[u8],
+    buffer: &mut [u8],
+) -> Result<usize, Refusal>
     ensures { Wrote (writing mode (group_of label.now stamp.now «data».now) (length buffer.old)) buffer.old result buffer.new }
 {
-    let chosen = modes::mode_of(mode);
-    match chosen {
-        modes::Chosen::Known(known) => writing::write_in(known, label, stamp, data, buffer),
-        modes::Chosen::Unknown => writing::stop(Refusal::ModeUnknown, buffer),
-    }
+    writing::write_in(Mode::try_from(mode)?, Group { label, stamp, data }, buffer)
 }
 
-// Document 01's number of a verdict.
-pub fn number_of(verdict: Verdict) -> u8
-    ensures { result ≡ number_of verdict }
+// Document 01's number of a judgement.
+pub fn number_of(judgement: Result<Fields, Fault>) -> u8
+    ensures { result ≡ number_of judgement }
 {
-    match verdict {
-        Verdict::Accepted => 1,
-        Verdict::Refused(refusal) => refusal_number(refusal),
+    match judgement {
+        Ok(_) => 1,
+        Err(fault) => refusal_number(fault.refusal),
     }
 }
 
 // Document 01's number of how a writing ended.
-pub fn number_of_writing(outcome: Outcome) -> u8
-    ensures { result ≡ number_of_writing outcome }
+pub fn number_of_writing(written: Result<usize, Refusal>) -> u8
+    ensures { result ≡ number_of_writing written }
 {
-    match outcome {
-        Outcome::Done => 0,
-        Outcome::Refused(refusal) => refusal_number(refusal),
+    match written {
+        Ok(_) => 0,
+        Err(refusal) => refusal_number(refusal),
     }
 }
 
@@ -155,15 +141,5 @@ pub fn number_of_writing(outcome: Outcome) -> u8
 pub fn refusal_number(refusal: Refusal) -> u8
     ensures { result ≡ number_of_refusal refusal }
 {
-    match refusal {
-        Refusal::TooLong => 8,
-        Refusal::Misshapen => 9,
-        Refusal::CheckWrong => 10,
-        Refusal::LabelUnknown => 11,
-        Refusal::StampWrong => 12,
-        Refusal::WidthWrong => 13,
-        Refusal::KindWrong => 14,
-        Refusal::NoRoom => 15,
-        Refusal::ModeUnknown => 19,
-    }
+    refusal as u8
 }

@@ -1,49 +1,43 @@
 // What differs between the modes.
 ghost use Rattle.std.specs.Prelude.{◌≡◌};
-ghost use Rattle.groups.specs.Modes.{mode_of, separator, counted_at_end};
-ghost use Rattle.groups.specs.Inside.{chosen_of};
+ghost use Rattle.groups.specs.Modes.{mode_of, known_mode, separator, counted_at_end};
 
-use crate::Mode;
-
-#[derive(Clone, Copy)]
-pub(crate) enum Chosen {
-    Known(Mode),
-    Unknown,
-}
+use crate::{Mode, Refusal};
 
 // The mode of a number.
-pub(crate) fn mode_of(number: u8) -> Chosen
-    ensures { result ≡ chosen_of (mode_of number) }
-{
-    if number == 0 {
-        return Chosen::Known(Mode::Historic);
-    }
-    if number == 1 {
-        return Chosen::Known(Mode::Standard);
-    }
-    if number == 2 {
-        return Chosen::Known(Mode::Business);
-    }
-    Chosen::Unknown
-}
+impl TryFrom<u8> for Mode {
+    type Error = Refusal;
 
-pub(crate) fn separator_of(mode: Mode) -> u8
-    ensures { result ≡ separator mode }
-{
-    match mode {
-        Mode::Historic => characters::SP,
-        Mode::Standard => characters::HT,
-        Mode::Business => characters::SP,
+    ghost try_from_gives = { λ number mode. mode ≡ known_mode (mode_of number) };
+
+    fn try_from(number: u8) -> Result<Self, Refusal> {
+        match number {
+            0 => Ok(Mode::Historic),
+            1 => Ok(Mode::Standard),
+            2 => Ok(Mode::Business),
+            _ => Err(Refusal::ModeUnknown),
+        }
     }
 }
 
-// What the final separator adds to the sum.
-pub(crate) fn counted_at_end(mode: Mode) -> u8
-    ensures { result ≡ counted_at_end mode }
-{
-    match mode {
-        Mode::Historic => 0,
-        Mode::Standard => separator_of(mode),
-        Mode::Business => 0,
+impl Mode {
+    pub(crate) fn separator(self) -> u8
+        ensures { result ≡ separator self }
+    {
+        match self {
+            Mode::Historic | Mode::Business => characters::SP,
+            Mode::Standard => characters::HT,
+        }
+    }
+
+    // What the final separator adds to the sum.
+    pub(crate) fn counted_at_end(self) -> u8
+        ensures { result ≡ counted_at_end self }
+    {
+        match self {
+            Mode::Historic => 0,
+            Mode::Standard => self.separator(),
+            Mode::Business => 0,
+        }
     }
 }

@@ -11,7 +11,8 @@
 
 ghost use Rattle.std.specs.Prelude.{◌≡◌, ◌≤◌};
 ghost use Rattle.groups.specs.Formats.{form_of};
-ghost use Rattle.groups.specs.Stored.{form_in, format_at};
+ghost use Rattle.groups.specs.Stamps.{is_stamped};
+ghost use Rattle.groups.specs.Stored.{form_in, format_at, rule_of};
 
 // Data kinds, document 01's letters in this order: N, decimal digits; X, digits and A to F; T, any of space to tilde.
 #[derive(Clone, Copy)]
@@ -29,11 +30,31 @@ pub enum Mark {
     Space,
 }
 
+impl Mark {
+    pub(crate) fn is_stamped(self) -> bool
+        ensures { result ≡ is_stamped self }
+    {
+        matches!(self, Mark::Letter | Mark::Space)
+    }
+}
+
 // What a label asks of stamp and data: data of one kind and one width, or data of one of some forms and no stamp.
 #[derive(Clone, Copy)]
 pub enum Rule {
     Plain(Plain),
     Formed(Forms),
+}
+
+impl Rule {
+    // No label that has forms is stamped.
+    pub(crate) fn mark(self) -> Mark
+        ensures { result ≡ (rule_of self).mark }
+    {
+        match self {
+            Rule::Plain(plain) => plain.mark,
+            Rule::Formed(_) => Mark::Unstamped,
+        }
+    }
 }
 
 #[derive(Clone, Copy)]
@@ -51,6 +72,7 @@ pub struct Forms {
     pub count: u8,
 }
 
+// Kept without names for its numbers, so that a row stays one line of the table.
 #[derive(Clone, Copy)]
 pub(crate) struct Row(pub u64, pub u64, pub u64);
 
@@ -312,7 +334,8 @@ pub(crate) const BUSINESS_9: [Row; 9] = [
 #[derive(Clone, Copy)]
 pub(crate) struct Form(pub usize, pub usize, pub [u8; 21]);
 
-// The form of a number; one that takes nothing where there is none.
+// The form of a number; one that takes nothing where there is none. Kept as a match: a constant array is laid out on the stack
+// wherever it is named (docs/DECISIONS.md, 48).
 pub(crate) fn form_of(number: usize) -> Form
     ensures { (form_in result ≡ form_of (format_at number)) × (result.1 ≤ 21) }
 {

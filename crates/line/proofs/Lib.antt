@@ -1,5 +1,4 @@
 -- Laws that only the proofs of functions need; then the laws behind the promises, and the promises.
-pub mod Reactions
 pub mod Feeding
 pub mod InRows
 pub mod Laws

@@ -1,5 +1,5 @@
 -- What the crate promises of one line: only the statements need to be read.
-use Rattle.std.specs.Prelude.{◌≡◌, ◌↔◌, Bool, true, false, not, ◌||◌, List, [], ◌∷◌, ◌++◌, map, ℕ, suc, ◌+◌, ◌%◌, ◌≤◌, ◌<◌, T, eqb, length, take}
+use Rattle.std.specs.Prelude.{◌≡◌, ◌↔◌, Some, Bool, true, false, not, ◌||◌, List, [], ◌∷◌, ◌++◌, map, ℕ, suc, ◌+◌, ◌%◌, ◌≤◌, ◌<◌, T, eqb, length, take}
 use Rattle.std.proofs.Math.Option.{none, some}
 use Rattle.characters.specs.Answers.{given, refused, every, pick}
 use Rattle.characters.specs.Wire.{is_sound, character_of, STX, CR, ETX}
@@ -49,7 +49,6 @@ use Rattle.line.proofs.Laws.FromStx as from_stx
 use Rattle.line.proofs.Laws.Longest as lengths
 use Rattle.line.proofs.Laws.Numbers as numbers
 use Rattle.line.specs.declared.LineState.{LineState}
-use Rattle.line.specs.declared.Opening.TheVariants.{Opened}
 use Rattle.line.specs.declared.Heard.{Heard}
 use Rattle.line.specs.declared.Notice.TheVariants.{FrameSound}
 use Rattle.line.specs.declared.rules.Symbol.TheVariants.{Stx, Etx, Lf, Cr, Damaged}
@@ -81,7 +80,7 @@ pub opening_number : (mode : ℕ) → number_of_opening (opening_of mode) ≡ pi
 opening_number = numbers.opening_numbered
 
 -- A line that is opened is outside, in the mode that was asked for, and its frame number is 0.
-pub opened_outside : (mode : ℕ) (l : LineState) (content : List ℕ) → opening_of mode ≡ Opened l
+pub opened_outside : (mode : ℕ) (l : LineState) (content : List ℕ) → opening_of mode ≡ Some l
     → (line_of l content ≡ outside) × (l.mode ≡ mode) × (l.frame ≡ 0)
 opened_outside = numbers.opened_outside
 

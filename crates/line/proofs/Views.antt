@@ -1,11 +1,12 @@
 -- What bytes do to the numbers and the lent bytes of a line, on every value, is what they do to document 01's line.
-use Rattle.std.specs.Prelude.{◌≡◌, refl, Bool, true, false, ◌||◌, List, [], ◌∷◌, ◌++◌, ℕ, suc, ◌+◌, ◌≤◌, ltb, length, take, set}
-use Rattle.std.proofs.Common.{sym, ◌∙◌, arith, add-one, ltb→lt, nltb→le, length-set, take_all, take-suc-set, length-take-le, ltb-true}
+use Rattle.std.specs.Prelude.{◌≡◌, refl, Bool, true, false, ◌||◌, List, [], ◌∷◌, ◌++◌, ℕ, suc, ◌+◌, ◌≤◌, ltb, min, length, take, set}
+use Rattle.std.proofs.Common.{sym, ◌∙◌, arith, add-one, length-set, take-suc-set, length-take-le, ltb-true}
 use Rattle.std.proofs.Math.Option.{Option, none, some}
+use Rattle.std.proofs.lemmas.List.{take_min}
 use mir.Val.{bool_byte}
-use Rattle.characters.specs.Answers.{Answer, refused, given, pick, by_pick}
+use Rattle.characters.specs.Answers.{Answer, refused, given, pick}
 use Rattle.groups.specs.Groups.{Group}
-use Rattle.groups.specs.Judging.{judging, shown, part_of, Shows, Inside}
+use Rattle.groups.specs.Judging.{judging, places_of, shown, part_of, Shows, Inside}
 use Rattle.groups.specs.Place.{place_of, judgement}
 use Rattle.groups.proofs.Laws.Shown.{shows, shown_inside, part_of_more}
 use Rattle.groups.specs.declared.Refusal.{Refusal}
@@ -72,15 +73,11 @@ phase_back mode frame (InGroup flaw damaged overlong) n = rw (mark_back flaw, ma
 -- no more than 128 characters are held
 pub held_most : (l : LineState) → held_in l ≤ 128
 unfolding held_in
-held_most l =
-    by_pick (λ (n : ℕ). n ≤ 128) (ltb l.length 128) _ _ (λ t. omega (arith, ltb→lt l.length 128 t))
-    (λ t. omega arith)
+held_most l = omega arith
 
 -- of 128 bytes, as many as the capped number says are as many as the number says
-take_capped : (n : ℕ) (g : List ℕ) → length g ≡ 128 → take (pick (ltb n 128) n 128) g ≡ take n g
-take_capped n g e =
-    by_pick (λ (k : ℕ). take k g ≡ take n g) (ltb n 128) n 128 (λ t. refl)
-    (λ t. let h = nltb→le n 128 t in take_all 128 g (omega arith) ∙ sym (take_all n g (omega arith)))
+take_capped : (n : ℕ) (g : List ℕ) → length g ≡ 128 → take (min n 128) g ≡ take n g
+take_capped n g e = rw (← e) (take_min n g)
 
 -- the numbers of a line in a phase stand for the line in this phase
 pub state_back : (mode frame : ℕ) (p : Phase) (n : ℕ) (g : List ℕ) → length g ≡ 128
@@ -120,11 +117,11 @@ held_none (InGroup flaw damaged overlong) = refl
 -- again, the mode kept, the frame number, the line, the answer; and an accepted group's fields lie in the lent bytes
 pub record StepView (mode frame : ℕ) (a : After) (s : Step) : Type 0 where
   pub long : length a.content ≡ 128
-  pub same_mode : a.result.line.mode ≡ mode
-  pub frame_is : a.result.line.frame ≡ frame
-  pub line_is : line_of a.result.line a.content ≡ s.state
-  pub answer_is : heard_answer a.result.heard a.content ≡ s.answer
-  pub inside : FieldsInside a.result.heard
+  pub same_mode : a.line.mode ≡ mode
+  pub frame_is : a.line.frame ≡ frame
+  pub line_is : line_of a.line a.content ≡ s.state
+  pub answer_is : heard_answer a.heard a.content ≡ s.answer
+  pub inside : FieldsInside a.heard
 
 -- what was heard of a group that is complete, and the answer that it is
 record JudgedAs (h : Heard) (g : List ℕ) (a : LineAnswer) : Type 0 where
@@ -141,11 +138,11 @@ shown_view mode n g e k = go (judging mode (take n g)) refl
     at = place_of mode (take n g)
 
     go : (a : Answer Refusal Group) → judging mode (take n g) ≡ a
-        → JudgedAs (heard_from (record { judged = shown a; place = at })) g (of_group a at)
+        → JudgedAs (heard_from (shown a at)) g (of_group a at)
     go (refused refusal) q = record { told = refl; fits = tt }
     go (given w) q =
-        let j = shown (given w) in
-        let s : Shows (take n g) j w = rw q at (shows mode (take n g) w q) in
+        let j = places_of w in
+        let s : Shows (take n g) j w = (shows mode (take n g) w q).1 in
         let i : Inside n j = rw (q, length-take-le n g (omega arith)) at (shown_inside mode (take n g)) in
         let label : part_of j.label g ≡ w.label =
         sym (part_of_more j.label n g i.label_inside (omega arith)) ∙ s.label_shown in
@@ -166,7 +163,7 @@ shown_view mode n g e k = go (judging mode (take n g)) refl
 
 -- what is heard of a complete group is the answer to it
 verdict_view : (mode : ℕ) (damaged overlong : Bool) (n : ℕ) (g : List ℕ) → length g ≡ 128 → n ≤ 128
-    → JudgedAs (heard_of mode damaged overlong g n) g (verdict mode damaged overlong (take n g))
+    → JudgedAs (heard_of mode damaged overlong (take n g)) g (verdict mode damaged overlong (take n g))
 unfolding heard_of verdict heard_answer pick
 verdict_view mode true overlong n g e k = record { told = refl; fits = tt }
 verdict_view mode false true n g e k = record { told = refl; fits = tt }
@@ -184,7 +181,7 @@ or_true false = refl
 
 -- a group that is judged: the line is in the frame, and the answer is given
 ended_view : (mode frame : ℕ) (flaw : Bool) (h : Heard) (g : List ℕ) (a : LineAnswer) → length g ≡ 128 → JudgedAs h g a
-    → StepView mode frame (record { result = ended_of mode frame flaw h; content = g }) (ended flaw a)
+    → StepView mode frame (ended_of mode frame flaw h g) (ended flaw a)
 unfolding heard_answer
 ended_view mode frame flaw Nothing g a e v = let z : ◌≡◌ {A = ℕ} 0 1 = cc v.told in absurd (omega arith)
 ended_view mode frame flaw (Accepted fields) g (refused notice) e v =
@@ -220,8 +217,8 @@ added_view mode frame flaw damaged overlong n c g e k = rw (length-take-le n g (
     go : (t : Bool) → ltb n 128 ≡ t
         → StepView mode frame
         (pick t
-        (record { result = quiet_of mode frame (InGroup flaw damaged overlong) (n + 1); content = set g n c })
-        (record { result = quiet_of mode frame (InGroup flaw damaged true) n; content = g }))
+        (quiet_of mode frame (InGroup flaw damaged overlong) (n + 1) (set g n c))
+        (quiet_of mode frame (InGroup flaw damaged true) n g))
         (record {
           state =
               pick t
@@ -285,7 +282,7 @@ act_view mode frame n g (Says p notice) e k =
     }
 act_view mode frame n g (Adds flaw damaged overlong c) e k = added_view mode frame flaw damaged overlong n c g e k
 act_view mode frame n g (Judges flaw damaged overlong) e k =
-    ended_view mode frame flaw (heard_of mode damaged overlong g n) g _ e (verdict_view mode damaged overlong n g e k)
+    ended_view mode frame flaw (heard_of mode damaged overlong (take n g)) g _ e (verdict_view mode damaged overlong n g e k)
 
 -- a move asks for content only in a group
 move_held : (mode : ℕ) (p : Phase) (y : Symbol) (c : List ℕ)
@@ -331,10 +328,10 @@ pub record FedView (mode frame n : ℕ) (f : FedTo) (s : State) (bs : List ℕ) 
 -- a byte that gives an answer ends the stretch
 fed_here : (mode frame n : ℕ) (x : After) (s : State) (b : ℕ) (bs : List ℕ) (a : LineAnswer)
     → StepView mode (frame_at frame (symbol_of b)) x (step mode s b)
-    → heard_answer x.result.heard x.content ≡ some a
+    → heard_answer x.heard x.content ≡ some a
     → FedView mode frame n
     (record {
-      result = record { line = x.result.line; count = n + 1; heard = x.result.heard };
+      result = record { line = x.line; count = n + 1; heard = x.heard };
       content = x.content;
     })
     s (b ∷ bs)
@@ -353,7 +350,7 @@ fed_here mode frame n x s b bs a v t =
 
 -- a byte, and the bytes behind it
 fed_more : (mode frame n : ℕ) (l : LineState) (h : Heard) (g : List ℕ) (s : State) (b : ℕ) (bs : List ℕ) (more : FedTo)
-    → StepView mode (frame_at frame (symbol_of b)) (record { result = record { line = l; heard = h }; content = g })
+    → StepView mode (frame_at frame (symbol_of b)) (record { line = l; heard = h; content = g })
     (step mode s b)
     → FedView mode (frame_at frame (symbol_of b)) (n + 1) more (step mode s b).state bs
     → FedView mode frame n (fed_on h l (n + 1) g more) s (b ∷ bs)
@@ -389,8 +386,8 @@ fed_view n l g [] e =
 fed_view n l g (b ∷ bs) e =
     let a = stepped l g b in
     let v = step_view l g b e in
-    let m = fed_view (n + 1) a.result.line a.content bs v.long in
-    fed_more l.mode l.frame n a.result.line a.result.heard a.content (line_of l g) b bs _ v
+    let m = fed_view (n + 1) a.line a.content bs v.long in
+    fed_more l.mode l.frame n a.line a.heard a.content (line_of l g) b bs _ v
     (rw (v.same_mode, v.frame_is, v.line_is) at m)
 
 -- ---- How many bytes a stretch takes

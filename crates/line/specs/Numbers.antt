@@ -1,6 +1,6 @@
 -- Document 01's numbers ("Numbers") for what a line tells.
 use Rattle.std.proofs.Math.Option.{Option, none, some}
-use Rattle.std.specs.Prelude.{ℕ}
+use Rattle.std.specs.Prelude.{ℕ, Option as Maybe, Some, None}
 use Rattle.characters.specs.Answers.{refused, given}
 use Rattle.groups.specs.Numbers.{number_of_refusal}
 use Rattle.line.specs.Lines.{LineAnswer}
@@ -15,8 +15,7 @@ use Rattle.line.specs.declared.Notice.TheVariants.{
   GroupDamaged,
   GroupRefused,
 }
-use Rattle.line.specs.declared.Opening.{Opening}
-use Rattle.line.specs.declared.Opening.TheVariants.{Opened, ModeUnknown}
+use Rattle.line.specs.declared.LineState.{LineState}
 use Rattle.line.specs.declared.Heard.{Heard}
 use Rattle.line.specs.declared.Heard.TheVariants.{Nothing, Accepted, Told}
 
@@ -69,6 +68,6 @@ place_of (Accepted fields) = 0
 place_of (Told notice) = place_of_notice notice
 
 -- "0: an opening .. that is not refused"; "19: a mode not 0 to 2"
-abbrev pub number_of_opening : Opening → ℕ
-number_of_opening (Opened l) = 0
-number_of_opening ModeUnknown = 19
+abbrev pub number_of_opening : Maybe LineState → ℕ
+number_of_opening (Some l) = 0
+number_of_opening None = 19

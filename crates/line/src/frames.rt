@@ -1,24 +1,23 @@
 // The number of a line's frame (document 02, M-108).
 ghost use Rattle.std.specs.Prelude.{◌≡◌};
+ghost use Rattle.characters.specs.Wire.{STX};
 ghost use Rattle.line.specs.Symbols.{symbol_of};
-ghost use Rattle.line.specs.FrameNumbers.{next_frame, frame_at};
+ghost use Rattle.line.specs.ByBytes.{is};
+ghost use Rattle.line.specs.FrameNumbers.{frame_at};
 
-// One more; 65,535 is followed by 0.
-fn next(frame: u16) -> u16
-    ensures { result ≡ next_frame frame }
+// Whether a byte is a sound STX. Its wire byte is looked for, since no other byte is one.
+pub(crate) fn is_stx(byte: u8) -> bool
+    ensures { result ≡ is STX byte }
 {
-    if frame == 65535 {
-        return 0;
-    }
-    frame + 1
+    byte == characters::wire_byte(characters::STX)
 }
 
-// The number after a byte: one more at an STX. Its wire byte is looked for, since no other byte is a sound STX.
+// The number after a byte: one more at an STX, and 65,535 is followed by 0.
 pub(crate) fn after(frame: u16, byte: u8) -> u16
     ensures { result ≡ frame_at frame (symbol_of byte) }
 {
-    if byte == characters::wire_byte(characters::STX) {
-        return next(frame);
+    if is_stx(byte) {
+        return frame.wrapping_add(1);
     }
     frame
 }

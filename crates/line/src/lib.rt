@@ -16,10 +16,13 @@ ghost use Rattle.line.specs.Numbers.{number_of, number_of_notice, place_of, plac
 ghost use Rattle.line.specs.State.{opening_of};
 ghost use Rattle.line.specs.Steps.{Fed, fed};
 
-use groups::{Refusal, Stretch};
+use groups::{Fields, Refusal};
+use rules::Phase;
+use state::Line;
 
 // What a line keeps, beside the bytes of its content. No call makes other values than those that `state` writes, and
-// every other value is read as one of them.
+// every other value is read as one of them. It stays numbers, and no enum with its marks: C keeps it (include/espandim.h), and
+// `feed` takes every value of it.
 #[repr(C)]
 #[derive(Clone, Copy)]
 pub struct LineState {
@@ -34,7 +37,7 @@ pub struct LineState {
 
 // What a line tells of its frames and groups, an accepted group apart. A refused group comes with the place in its content
 // that judging tells (M-104).
-#[derive(Clone, Copy)]
+#[derive(Clone, Copy, PartialEq, Eq)]
 pub enum Notice {
     FrameSound,
     FrameFlawed,
@@ -45,15 +48,8 @@ pub enum Notice {
     GroupRefused(Refusal, u8),
 }
 
-// Where the fields of an accepted group stand in the lent content.
-#[derive(Clone, Copy)]
-pub struct Fields {
-    pub label: Stretch,
-    pub stamp: Stretch,
-    pub data: Stretch,
-}
-
-// What a byte gave: no answer, an accepted group, or a notice.
+// What a byte gave: no answer, an accepted group, whose fields stand in the lent content, or a notice. Three cases of its own,
+// and no Option of a Result: most notices are no errors.
 #[derive(Clone, Copy)]
 pub enum Heard {
     Nothing,
@@ -70,77 +66,59 @@ pub struct Taken {
     pub heard: Heard,
 }
 
-// An opening: the line as it starts, or no line, where the mode is not known.
-#[derive(Clone, Copy)]
-pub enum Opening {
-    Opened(LineState),
-    ModeUnknown,
-}
-
-// A line of this mode, outside of every frame, of which none came yet.
-pub fn open(mode: u8) -> Opening
+// A line of this mode, outside of every frame, of which none came yet; none where the mode is not known.
+#[tactic(auto, unfolding(crate::specs::State::opening_of, characters::specs::Answers::pick))]
+pub fn open(mode: u8) -> Option<LineState>
     ensures { result ≡ opening_of mode }
 {
-    if groups::is_mode(mode) {
-        return Opening::Opened(LineState {
-            mode,
-            phase: 0,
-            flaw: 0,
-            damaged: 0,
-            overlong: 0,
-            length: 0,
-            frame: 0,
-        });
+    if !groups::is_mode(mode) {
+        return None;
     }
-    Opening::ModeUnknown
+    Some(LineState::from(Line {
+        mode,
+        frame: 0,
+        phase: Phase::Outside,
+        held: 0,
+    }))
 }
 
-// Takes bytes from the front, up to one that gives an answer.
+// Takes bytes from the front, up to one that gives an answer. The content is lent beside the line and is no part of it: in C it
+// lies in the caller's memory (include/espandim.h).
 pub fn feed(line: LineState, content: &mut [u8; 128], bytes: &[u8]) -> Taken
     ensures { Fed (fed 0 line content.old bytes.now) result content.new }
 {
-    let mut at = line;
-    let mut i = 0;
-    while i < bytes.len() {
-        let row = rows::take_row(at, content, &bytes[i..]);
-        let phase = row.phase;
-        let held = row.held;
-        i += row.count;
-        if i == bytes.len() {
+    if bytes.is_empty() {
+        return Taken {
+            line,
+            count: 0,
+            heard: Heard::Nothing,
+        };
+    }
+    let mut at = Line::from(line);
+    let mut rest = bytes;
+    loop {
+        let row = rows::take_row(at, content, rest);
+        let Some((&byte, behind)) = rest[row.count..].split_first() else {
             return Taken {
-                line: state::state_of(at.mode, at.frame, phase, held),
-                count: i,
+                line: LineState::from(row.line),
+                count: bytes.len(),
                 heard: Heard::Nothing,
             };
-        }
-        let byte = bytes[i];
-        let frame = frames::after(at.frame, byte);
-        let stepped = step::step(at.mode, frame, phase, held, content, byte);
-        let next = stepped.line;
-        let heard = stepped.heard;
-        i += 1;
-        match heard {
-            Heard::Nothing => at = next,
-            Heard::Accepted(fields) => {
-                return Taken {
-                    line: next,
-                    count: i,
-                    heard: Heard::Accepted(fields),
-                };
+        };
+        let reaction = step::step(row.line, content, byte);
+        match reaction.heard {
+            Heard::Nothing => {
+                at = reaction.line;
+                rest = behind;
             }
-            Heard::Told(notice) => {
+            heard => {
                 return Taken {
-                    line: next,
-                    count: i,
-                    heard: Heard::Told(notice),
+                    line: LineState::from(reaction.line),
+                    count: bytes.len() - behind.len(),
+                    heard,
                 };
             }
         }
-    }
-    Taken {
-        line: at,
-        count: i,
-        heard: Heard::Nothing,
     }
 }
 
@@ -160,22 +138,22 @@ pub fn place_of(heard: Heard) -> u8
     ensures { result ≡ place_of heard }
 {
     match heard {
-        Heard::Nothing => 0,
-        Heard::Accepted(_) => 0,
         Heard::Told(notice) => place_of_notice(notice),
+        _ => 0,
     }
 }
 
 // Document 01's number of an opening.
-pub fn number_of_opening(opening: Opening) -> u8
+pub fn number_of_opening(opening: Option<LineState>) -> u8
     ensures { result ≡ number_of_opening opening }
 {
     match opening {
-        Opening::Opened(_) => 0,
-        Opening::ModeUnknown => 19,
+        Some(_) => 0,
+        None => 19,
     }
 }
 
+// By a match, and no discriminants: a refused group has fields.
 fn number_of_notice(notice: Notice) -> u8
     ensures { result ≡ number_of_notice notice }
 {
@@ -194,12 +172,7 @@ fn place_of_notice(notice: Notice) -> u8
     ensures { result ≡ place_of_notice notice }
 {
     match notice {
-        Notice::FrameSound => 0,
-        Notice::FrameFlawed => 0,
-        Notice::FrameInterrupted => 0,
-        Notice::FrameRestarted => 0,
-        Notice::GroupRestarted => 0,
-        Notice::GroupDamaged => 0,
         Notice::GroupRefused(_, place) => place,
+        _ => 0,
     }
 }

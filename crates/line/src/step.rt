@@ -1,33 +1,25 @@
 // One byte.
-ghost use Rattle.std.specs.Prelude.{◌≡◌, take};
+ghost use Rattle.std.specs.Prelude.{◌≡◌};
 ghost use Rattle.line.specs.Symbols.{symbol_of};
 ghost use Rattle.line.specs.Rules.{move};
-ghost use Rattle.line.specs.Steps.{heard_of, ended_of, quiet_of, acted, Stepped};
+ghost use Rattle.line.specs.Steps.{heard_of, ended_of, reacted, Stepped};
 
 use crate::rules::{Move, Phase};
-use crate::{Fields, Heard, LineState, Notice, rules, state};
-use groups::{Refusal, Verdict};
+use crate::state::Line;
+use crate::{Heard, Notice, frames, rules};
+use groups::Refusal;
 
 // What a byte did: the line afterwards, and what it gave.
 #[derive(Clone, Copy)]
 pub struct Reaction {
-    pub line: LineState,
+    pub line: Line,
     pub heard: Heard,
 }
 
-// The first bytes of a text, as many as `count` says; all of them where it has no more.
-fn front(text: &[u8], count: usize) -> &[u8]
-    ensures { result.now ≡ take count text.now }
-{
-    if text.len() < count {
-        return text;
-    }
-    &text[..count]
-}
-
 // What a group that is complete gives.
-fn judged(mode: u8, damaged: bool, overlong: bool, content: &[u8], length: usize) -> Heard
-    ensures { result ≡ heard_of mode damaged overlong content.now length }
+#[tactic(auto, unfolding(crate::specs::Steps::heard_of, characters::specs::Answers::pick))]
+fn judged(mode: u8, damaged: bool, overlong: bool, content: &[u8]) -> Heard
+    ensures { result ≡ heard_of mode damaged overlong content.now }
 {
     if damaged {
         return Heard::Told(Notice::GroupDamaged);
@@ -35,36 +27,9 @@ fn judged(mode: u8, damaged: bool, overlong: bool, content: &[u8], length: usize
     if overlong {
         return Heard::Told(Notice::GroupRefused(Refusal::TooLong, 0));
     }
-    let judgement = groups::judge(mode, front(content, length));
-    let judged = judgement.judged;
-    let place = judgement.place;
-    let verdict = judged.verdict;
-    let label = judged.label;
-    let stamp = judged.stamp;
-    let data = judged.data;
-    match verdict {
-        Verdict::Accepted => Heard::Accepted(Fields { label, stamp, data }),
-        Verdict::Refused(refusal) => Heard::Told(Notice::GroupRefused(refusal, place as u8)),
-    }
-}
-
-// The frame goes on behind a group; one that is not accepted leaves it flawed.
-fn ended(mode: u8, frame: u16, flaw: bool, heard: Heard) -> Reaction
-    ensures { result ≡ ended_of mode frame flaw heard }
-{
-    match heard {
-        Heard::Accepted(fields) => Reaction {
-            line: state::state_of(mode, frame, Phase::Frame(flaw), 0),
-            heard: Heard::Accepted(fields),
-        },
-        Heard::Told(why) => Reaction {
-            line: state::state_of(mode, frame, Phase::Frame(true), 0),
-            heard: Heard::Told(why),
-        },
-        Heard::Nothing => Reaction {
-            line: state::state_of(mode, frame, Phase::Frame(true), 0),
-            heard: Heard::Nothing,
-        },
+    match groups::judge(mode, content) {
+        Ok(fields) => Heard::Accepted(fields),
+        Err(fault) => Heard::Told(Notice::GroupRefused(fault.refusal, fault.place as u8)),
     }
 }
 
@@ -80,56 +45,51 @@ fn move_of(phase: Phase, byte: u8) -> Move
     rules::moved(phase, rules::symbol_of(byte))
 }
 
-// What a byte does to a line of this mode in this phase, whose group holds so many characters; the number of its frame is the
-// one after the byte.
-pub(crate) fn step(
-    mode: u8,
-    frame: u16,
-    phase: Phase,
-    length: u16,
-    content: &mut [u8; 128],
-    byte: u8,
-) -> Reaction
-    ensures { Stepped (acted mode frame length content.old (move phase (symbol_of byte))) result content.new }
+// The frame goes on behind a group; one that is not accepted leaves it flawed.
+fn ended(line: Line, flaw: bool, heard: Heard) -> Reaction
+    ensures { (content : _) → Stepped (ended_of line.mode line.frame flaw heard content) result content }
 {
-    let does = move_of(phase, byte);
-    match does {
-        Move::Quiet(phase) => quiet(mode, frame, phase, length),
-        Move::Opens(flaw) => quiet(mode, frame, Phase::Group(flaw, false, false), 0),
+    let flawed = flaw | !matches!(heard, Heard::Accepted(_));
+    Reaction {
+        line: line.turned(Phase::Frame(flawed), 0),
+        heard,
+    }
+}
+
+// What a byte does to a line; the number of its frame is then the one after the byte.
+#[tactic(auto, unfolding(characters::specs::Answers::pick))]
+pub(crate) fn step(mut line: Line, content: &mut [u8; 128], byte: u8) -> Reaction
+    ensures { Stepped (reacted line content.old byte) result content.new }
+{
+    line.frame = frames::after(line.frame, byte);
+    let held = line.held;
+    match move_of(line.phase, byte) {
+        Move::Quiet(phase) => quiet(line.turned(phase, held)),
+        Move::Opens(flaw) => quiet(line.turned(Phase::Group(flaw, false, false), 0)),
         Move::Says(phase, notice) => Reaction {
-            line: state::state_of(mode, frame, phase, 0),
+            line: line.turned(phase, 0),
             heard: Heard::Told(notice),
         },
         Move::Adds(flaw, damaged, overlong, code) => {
-            if length < 128 {
-                let at = length as usize;
-                content[at] = code;
-                quiet(
-                    mode,
-                    frame,
-                    Phase::Group(flaw, damaged, overlong),
-                    length + 1,
-                )
+            if held < 128 {
+                content[held as usize] = code;
+                quiet(line.turned(Phase::Group(flaw, damaged, overlong), held + 1))
             } else {
-                quiet(mode, frame, Phase::Group(flaw, damaged, true), length)
+                quiet(line.turned(Phase::Group(flaw, damaged, true), held))
             }
         }
         Move::Judges(flaw, damaged, overlong) => {
-            ended(
-                mode,
-                frame,
-                flaw,
-                judged(mode, damaged, overlong, content, length as usize),
-            )
+            let text = &content[..held as usize];
+            ended(line, flaw, judged(line.mode, damaged, overlong, text))
         }
     }
 }
 
-fn quiet(mode: u8, frame: u16, phase: Phase, length: u16) -> Reaction
-    ensures { result ≡ quiet_of mode frame phase length }
+fn quiet(line: Line) -> Reaction
+    ensures { result ≡ record { line = line; heard = Heard.Nothing } }
 {
     Reaction {
-        line: state::state_of(mode, frame, phase, length),
+        line,
         heard: Heard::Nothing,
     }
 }

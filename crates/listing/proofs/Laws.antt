@@ -1,24 +1,16 @@
 -- The laws behind the promises. Nobody has to believe them: they are checked.
-use Rattle.std.specs.Prelude.{◌≡◌, refl, Bool, true, false, ◌&&◌, ◌||◌, List, [], ◌∷◌, ◌++◌, map, ℕ, ◌+◌, ◌/◌, ◌%◌, ◌≤◌, ◌<◌, T, eqb, leb, ltb, length, get_or}
-use Rattle.std.proofs.Common.{sym, ap, ◌∙◌, append_assoc, append-nil, arith, le→leb, lt→ltb, ltb→lt, nltb→le, ne_eqb}
-use Rattle.std.proofs.Math.Option.{Option, none, some}
+use Rattle.std.specs.Prelude.{◌≡◌, refl, true, ◌&&◌, ◌||◌, List, [], ◌∷◌, ◌++◌, map, ℕ, ◌+◌, ◌/◌, ◌%◌, ◌≤◌, ◌<◌, T, eqb, leb, ltb, length, get_or, Option, Some, None}
+use Rattle.std.proofs.Common.{sym, ap, ◌∙◌, append_assoc, append-nil, arith, le→leb, lt→ltb, ltb→lt, nltb→le}
 use Rattle.std.proofs.Math.Facts.{yes_and}
 use Rattle.characters.specs.Answers.{every, pick, by_pick}
 use Rattle.groups.specs.Kinds.{within}
-use Rattle.groups.specs.Modes.{is_mode}
 use Rattle.groups.specs.Table.{codes}
 use Rattle.line.specs.Lines.{LineAnswer, State, after, answers, outside}
-use Rattle.line.specs.State.{state_of, opening_of}
-use Rattle.line.proofs.Views.{opened_view}
 use Rattle.line.proofs.Laws.Bytes.{answers_append}
 use Rattle.line.proofs.Laws.Until.{answers_none}
-use Rattle.line.proofs.Laws.Openings.{opening_known, opening_unknown}
-use Rattle.line.specs.declared.LineState.{LineState}
-use Rattle.line.specs.declared.rules.Phase.TheVariants.{Outside}
-use Rattle.line.specs.declared.Opening.TheVariants.{Opened}
-use Rattle.listing.specs.Listing.{digits, place_shown, line_for, lines_for, mode_by, listing_in, listing, joined, lines_by_piece}
+use Rattle.capture.specs.Letters.{mode_by}
+use Rattle.listing.specs.Listing.{digits, place_shown, line_for, lines_for, listing_in, listing, joined, lines_by_piece}
 use Rattle.listing.specs.Shown.{value_from, placed_answers, placed_lines}
-use Rattle.listing.specs.Parts.{Fresh, opening_in}
 
 -- the lines of answers behind each other
 lines_append : (a b : List LineAnswer) → lines_for (a ++ b) ≡ lines_for a ++ lines_for b
@@ -48,53 +40,25 @@ pieces_join mode s (piece ∷ more) =
     ∙ ap (λ (text : List ℕ). lines_for (answers mode s piece) ++ text) (pieces_join mode (after mode s piece) more)
 
 -- so has a capture behind its letter
-pub listing_by_piece : (letter mode : ℕ) → mode_by letter ≡ some mode → (pieces : List (List ℕ))
+pub listing_by_piece : (letter mode : ℕ) → mode_by letter ≡ Some mode → (pieces : List (List ℕ))
     → listing (letter ∷ joined pieces) ≡ lines_by_piece mode outside pieces
 unfolding listing
 listing_by_piece letter mode e pieces = rw e (pieces_join mode outside pieces)
 
 -- and a letter alone has none
-pub listing_alone : (letter mode : ℕ) → mode_by letter ≡ some mode → listing (letter ∷ []) ≡ []
+pub listing_alone : (letter mode : ℕ) → mode_by letter ≡ Some mode → listing (letter ∷ []) ≡ []
 unfolding listing
 listing_alone letter mode e = rw e (lines_none mode outside)
 
 -- what begins a capture prints what begins its listing
 begins_in : (o : Option ℕ) (a b : List ℕ) → (more : List ℕ) × (listing_in o (a ++ b) ≡ listing_in o a ++ more)
-begins_in none a b = ([], sym (append-nil _))
-begins_in (some mode) a b = (_, lines_of_both mode outside a b)
+begins_in None a b = ([], sym (append-nil _))
+begins_in (Some mode) a b = (_, lines_of_both mode outside a b)
 
 pub listing_begins : (a b : List ℕ) → 1 ≤ length a → (more : List ℕ) × (listing (a ++ b) ≡ listing a ++ more)
 unfolding listing
 listing_begins [] b h = absurd (omega arith)
 listing_begins (letter ∷ a) b h = begins_in (mode_by letter) a b
-
--- a line that was opened is in its mode, and outside
-opened_in : (mode : ℕ) (l : LineState) (known : Bool) → is_mode mode ≡ known → opening_of mode ≡ Opened l
-    → Fresh mode l
-opened_in mode l true k e =
-    let same : state_of mode 0 Outside 0 ≡ l = cc (opening_known mode k) in
-    record { in_mode = rw (sym same); is_outside = λ content. rw (sym same) (opened_view mode 0 content) }
-opened_in mode l false k e =
-    let z : ◌≡◌ {A = ℕ} 0 1 = cc (opening_unknown mode k) in absurd (omega arith)
-
--- so is the line that a letter opens
-fresh_in : (o : Option ℕ) (l : LineState) → opening_in o ≡ Opened l → (mode : ℕ) × (o ≡ some mode) × Fresh mode l
-fresh_in none l e = let z : ◌≡◌ {A = ℕ} 0 1 = cc in absurd (omega arith)
-fresh_in (some mode) l e = (mode, refl, opened_in mode l (is_mode mode) refl e)
-
-pub opened_fresh : (letter : ℕ) (l : LineState) → opening_in (mode_by letter) ≡ Opened l
-    → (mode : ℕ) × (mode_by letter ≡ some mode) × Fresh mode l
-opened_fresh letter = fresh_in (mode_by letter)
-
--- ---- The letters
-
-pub letters_known : map mode_by (codes "HSP") ≡ some 0 ∷ some 1 ∷ some 2 ∷ []
-unfolding mode_by pick
-letters_known = refl
-
-pub letter_unknown : (letter : ℕ) → (letter ≡ 0x48 → ⊥) → (letter ≡ 0x53 → ⊥) → (letter ≡ 0x50 → ⊥) → mode_by letter ≡ none
-unfolding mode_by pick
-letter_unknown letter h s p = rw (ne_eqb letter 0x48 h, ne_eqb letter 0x53 s, ne_eqb letter 0x50 p)
 
 -- ---- Numbers and places
 

@@ -1,5 +1,5 @@
 -- The laws that the proofs of several functions cite; then what is promised, and the laws behind it.
-pub mod Laying
+pub mod Lengths
 pub mod Lines
 pub mod Pieces
 pub mod Laws

@@ -1,85 +1,65 @@
 -- A stretch of bytes up to an answer, and a piece of the capture, stretch by stretch.
-use mathlib.Core.Path.{◌≡◌, sym, ap, ◌∙◌}
-use mathlib.Core.List.{List}
-use Prim.Native.Nat.{ℕ, ◌+◌, ◌-◌, ◌≤◌, ◌<◌}
-use native.Mathlib.Omega.{arith}
-use lib.ListN.{length, take, drop, length-drop}
-use lib.Seq.{take-add, take_all}
+use Rattle.std.proofs.Common.{◌≡◌, sym, ap, ◌∙◌, List, [], ◌∷◌, ℕ, ◌-◌, ◌≤◌, ◌<◌, arith, length, take, drop}
+use Rattle.std.proofs.lemmas.List.{take-append-drop}
+use Rattle.arrayvec.specs.ArrayVec.{ArrayVec}
 use Rattle.line.specs.Lines.{State, after, until_answer}
-use Rattle.line.specs.State.{line_of}
 use Rattle.line.specs.Steps.{Fed, fed}
 use Rattle.line.specs.Views.{FieldsInside}
-use Rattle.line.proofs.Views.{FedView, fed_view, until_most, until_some}
+use Rattle.line.proofs.Views.{until_most, until_some}
+use Rattle.capture.proofs.Pieces.{rest_is, rest_less, taken_view}
 use Rattle.line.proofs.Laws.Bytes.{after_append}
 use Rattle.line.proofs.Laws.Until.{after_none}
-use Rattle.line.specs.declared.LineState.{LineState}
+use Rattle.listing.specs.declared.Ear.{Ear}
 use Rattle.line.specs.declared.Taken.{Taken}
 use Rattle.listing.specs.Listing.{lines_for}
-use Rattle.listing.specs.Parts.{Laid, lines_heard, Lists}
+use Rattle.listing.specs.Parts.{heard_by, lines_heard, Lists}
 use Rattle.listing.specs.declared.Listed.{Listed}
 
-module _ (l : LineState) (content bytes : List ℕ) (long : length content ≡ 128) (taken : Taken) (left : List ℕ)
-    (f : Fed (fed 0 l content bytes) taken left) where
-  -- what the line took, as the line of document 01 takes it
-  taken_view : FedView l.mode l.frame 0 (record { result = taken; content = left }) (line_of l content) bytes
-  taken_view = rw (f.results, f.leaves) (fed_view 0 l content bytes long)
-
+module _ (e : Ear) (bytes : List ℕ) (long : length e.content ≡ 128) (taken : Taken) (left : List ℕ)
+    (f : Fed (fed 0 e.line e.content bytes) taken left) where
   -- the fields of what was heard lie in the content
   pub taken_inside : FieldsInside taken.heard
-  taken_inside = taken_view.inside
+  taken_inside = (taken_view e.line e.content bytes long taken left f).inside
 
-  -- with the line of what was heard laid into a text, this is what the stretch lists
-  pub taken_lists : (start text : List ℕ) (n : ℕ) → Laid start 0 (lines_heard taken.heard left) n text
-      → Lists l content bytes (record { line = taken.line; count = taken.count; length = n }) left text
+  -- with the line of what was heard for its text, this is what the stretch lists
+  pub taken_lists : (text : ArrayVec ℕ) → text.items ≡ lines_heard taken.heard left
+      → Lists e bytes (record { count = taken.count; text = text }) (record { line = taken.line; content = left })
   unfolding lines_heard
-  taken_lists start text n h =
-      let v = taken_view in
-      let count : taken.count ≡ until_answer l.mode (line_of l content) bytes = omega (arith, v.count_is) in
+  taken_lists text h =
+      let v = taken_view e.line e.content bytes long taken left f in
+      let count : taken.count ≡ until_answer e.line.mode (heard_by e) bytes = omega (arith, v.count_is) in
       record {
         long = v.long;
         same_mode = v.same_mode;
         count_is = count;
         line_is = rw count v.line_is;
-        fits = h.fits;
-        text_is = h.text_is ∙ rw count (ap lines_for v.answers_are);
+        text_is = h ∙ rw count (ap lines_for v.answers_are);
       }
 
--- ---- A piece, of which the first i bytes have been taken
+-- ---- A piece, stretch by stretch
 
--- what is left of it
-rest_is : (bytes : List ℕ) (i : ℕ) → take (length bytes - i) (drop i bytes) ≡ drop i bytes
-rest_is bytes i = take_all (length bytes - i) (drop i bytes) (simp length-drop (omega arith))
+module _ (e : Ear) (bytes : List ℕ) (r : Listed) (f : Ear) (n : Lists e bytes r f) where
+  -- a stretch of some bytes takes at least one
+  pub stretch_some : 1 ≤ length bytes → 1 ≤ r.count
+  stretch_some h = let some = until_some e.line.mode (heard_by e) bytes h in omega (arith, n.count_is)
 
-module _ (mode : ℕ) (s : State) (bytes : List ℕ) (i : ℕ) (h : i < length bytes) (at : LineState) (content : List ℕ)
-    (same : at.mode ≡ mode) (here : line_of at content ≡ after mode s (take i bytes)) (r : Listed) (left text : List ℕ)
-    (n : Lists at content (take (length bytes - i) (drop i bytes)) r left text) where
-  -- a stretch takes at least a byte
-  pub next_some : 1 ≤ r.count
-  next_some =
-      let some = until_some at.mode (line_of at content) (take (length bytes - i) (drop i bytes))
-      (rw (rest_is bytes i) (simp length-drop (omega arith))) in
-      omega (arith, n.count_is)
+  -- and no more than there are
+  pub stretch_most : r.count ≤ length bytes
+  stretch_most = let most = until_most e.line.mode (heard_by e) bytes in omega (arith, n.count_is)
 
-  -- and no more than are left
-  pub next_most : i + r.count ≤ length bytes
-  next_most =
-      let most = until_most at.mode (line_of at content) (take (length bytes - i) (drop i bytes)) in
-      let long : length (take (length bytes - i) (drop i bytes)) ≡ length bytes - i =
-      ap length (rest_is bytes i) ∙ length-drop i bytes in
-      omega (arith, n.count_is)
+  -- so less is left
+  pub stretch_less : 1 ≤ length bytes → length (take (length bytes - r.count) (drop r.count bytes)) < length bytes
+  stretch_less h = rest_less bytes r.count (stretch_some h) h
 
-  -- the line is then where all bytes so far lead
-  pub next_line : line_of r.line left ≡ after mode s (take (i + r.count) bytes)
-  next_line =
-      n.line_is
-      ∙ rw (rest_is bytes i, here, same, take-add i r.count bytes)
-      (sym (after_append mode s (take i bytes) (take r.count (drop i bytes))))
+  -- what is left leads from there where all of them lead
+  pub stretch_leads : after f.line.mode (heard_by f) (take (length bytes - r.count) (drop r.count bytes))
+      ≡ after e.line.mode (heard_by e) bytes
+  stretch_leads =
+      rw (n.line_is, n.same_mode, rest_is bytes r.count)
+      (sym (after_append e.line.mode (heard_by e) (take r.count bytes) (drop r.count bytes))
+      ∙ ap (after e.line.mode (heard_by e)) (take-append-drop r.count bytes))
 
--- at first no byte has been taken
-pub first_line : (mode : ℕ) (s : State) (bytes : List ℕ) → s ≡ after mode s (take 0 bytes)
-first_line mode s bytes = sym (after_none mode s)
-
--- and at the end all of them
-pub last_line : (mode : ℕ) (s t : State) (bytes : List ℕ) (i : ℕ) → length bytes ≤ i → t ≡ after mode s (take i bytes)
-    → t ≡ after mode s bytes
-last_line mode s t bytes i h e = e ∙ ap (after mode s) (take_all i bytes h)
+-- no bytes lead nowhere else
+pub none_lead : (mode : ℕ) (s : State) (bytes : List ℕ) → length bytes ≡ 0 → after mode s bytes ≡ s
+none_lead mode s [] h = after_none mode s
+none_lead mode s (x ∷ xs) h = absurd (omega arith)

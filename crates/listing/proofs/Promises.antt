@@ -1,25 +1,14 @@
 -- What is promised of the listing: only the statements need to be read. That the program writes the text that
 -- `list_next` lays, and nothing else, is no statement: no contract can speak of what is read or written.
-use Rattle.std.specs.Prelude.{◌≡◌, List, [], ◌∷◌, ◌++◌, map, ◌||◌, ℕ, ◌≤◌, ◌<◌, T, eqb, ltb, length, get_or}
-use Rattle.std.proofs.Math.Option.{none, some}
+use Rattle.std.specs.Prelude.{◌≡◌, List, [], ◌∷◌, ◌++◌, map, ◌||◌, ℕ, ◌≤◌, ◌<◌, T, eqb, ltb, length, get_or, Some}
 use Rattle.characters.specs.Answers.{every}
 use Rattle.groups.specs.Kinds.{within}
 use Rattle.groups.specs.Table.{codes}
 use Rattle.line.specs.Lines.{outside}
-use Rattle.line.specs.declared.LineState.{LineState}
-use Rattle.line.specs.declared.Opening.TheVariants.{Opened}
-use Rattle.listing.specs.Listing.{digits, line_for, mode_by, listing, joined, lines_by_piece}
+use Rattle.listing.specs.Listing.{digits, line_for, listing, joined, lines_by_piece}
 use Rattle.listing.specs.Shown.{value_from, placed_answers, placed_lines}
-use Rattle.listing.specs.Parts.{Fresh, opening_in}
-use Rattle.listing.proofs.Laws.{digits_valued, lines_placed, letters_known, letter_unknown, listing_by_piece, listing_begins, listing_alone, opened_fresh}
-
--- "`H` or `S`", and "`P` begins such a capture" (M-100): these letters begin captures of modes 0, 1 and 2.
-pub letters_exactly : map mode_by (codes "HSP") ≡ some 0 ∷ some 1 ∷ some 2 ∷ []
-letters_exactly = letters_known
-
--- No other byte begins a capture.
-pub no_other_letter : (letter : ℕ) → (letter ≡ 0x48 → ⊥) → (letter ≡ 0x53 → ⊥) → (letter ≡ 0x50 → ⊥) → mode_by letter ≡ none
-no_other_letter = letter_unknown
+use Rattle.capture.specs.Letters.{mode_by}
+use Rattle.listing.proofs.Laws.{digits_valued, lines_placed, listing_by_piece, listing_begins, listing_alone}
 
 -- The digits of a number are decimal digits that make it again, and do not begin with a needless zero.
 pub digits_exactly : (n : ℕ) → n < 1000
@@ -31,7 +20,7 @@ pub places_listed : map line_for placed_answers ≡ map codes placed_lines
 places_listed = lines_placed
 
 -- However a capture is cut into pieces, the lines of the pieces, one behind the other, are its listing.
-pub cut_anywhere : (letter mode : ℕ) → mode_by letter ≡ some mode → (pieces : List (List ℕ))
+pub cut_anywhere : (letter mode : ℕ) → mode_by letter ≡ Some mode → (pieces : List (List ℕ))
     → listing (letter ∷ joined pieces) ≡ lines_by_piece mode outside pieces
 cut_anywhere = listing_by_piece
 
@@ -40,10 +29,5 @@ pub cut_short : (a b : List ℕ) → 1 ≤ length a → (more : List ℕ) × (li
 cut_short = listing_begins
 
 -- The letter alone has no line at all.
-pub letter_alone : (letter mode : ℕ) → mode_by letter ≡ some mode → listing (letter ∷ []) ≡ []
+pub letter_alone : (letter mode : ℕ) → mode_by letter ≡ Some mode → listing (letter ∷ []) ≡ []
 letter_alone = listing_alone
-
--- A line that a letter opens is of the letter's mode, and has heard nothing yet.
-pub opened_by_letter : (letter : ℕ) (l : LineState) → opening_in (mode_by letter) ≡ Opened l
-    → (mode : ℕ) × (mode_by letter ≡ some mode) × Fresh mode l
-opened_by_letter = opened_fresh

@@ -1,6 +1,6 @@
 -- The listing of a capture (document 01, "The listing").
-use Rattle.std.specs.Prelude.{◌||◌, List, [], ◌∷◌, ◌++◌, ℕ, ◌+◌, ◌/◌, ◌%◌, eqb, ltb}
-use Rattle.std.proofs.Math.Option.{Option, none, some}
+use Rattle.std.specs.Prelude.{◌||◌, List, [], ◌∷◌, ◌++◌, ℕ, ◌+◌, ◌/◌, ◌%◌, eqb, ltb, Option, Some, None}
+use Rattle.capture.specs.Letters.{mode_by}
 use Rattle.characters.specs.Answers.{refused, given, pick}
 use Rattle.characters.specs.Wire.{LF, SP}
 use Rattle.groups.specs.Groups.{Group}
@@ -40,17 +40,13 @@ unfoldable pub lines_for : List LineAnswer → List ℕ
 lines_for [] = []
 lines_for (a ∷ more) = line_for a ++ lines_for more
 
--- "`H` or `S`", as they stand: mode 0 is historic, mode 1 is standard; "`P` begins" a capture of mode 2 (M-100)
-unfoldable pub mode_by : ℕ → Option ℕ
-mode_by letter = pick (eqb letter 0x48) (some 0) (pick (eqb letter 0x53) (some 1) (pick (eqb letter 0x50) (some 2) none))
-
 -- "Bad capture: `20`"
 abbrev pub bad : List ℕ
 bad = digits 20 ++ LF ∷ []
 
 abbrev pub listing_in : Option ℕ → List ℕ → List ℕ
-listing_in none bytes = bad
-listing_in (some mode) bytes = lines_for (answers mode outside bytes)
+listing_in None bytes = bad
+listing_in (Some mode) bytes = lines_for (answers mode outside bytes)
 
 -- all that is written for all that is read; bad is a "capture empty or not begun by H, S or P"
 unfoldable pub listing : List ℕ → List ℕ

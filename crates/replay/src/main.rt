@@ -17,373 +17,230 @@
 // What it is run on, and what it must write, is made from the calls in calls.tsv by the script `make`.
 #![tactic(auto)]
 
+mod hex;
 mod input;
-mod output;
 
-ghost use Rattle.std.specs.Prelude.{◌≡◌, ◌≤◌};
+use hex::put_hex;
+use input::Input;
+use station::{Contents, Inboxes, Marks, Places, Refusal};
+use std::fmt;
+use std::fmt::Write;
+use streams::{Page, Stopped, Streams};
 
-use input::{Piece, Reader};
-use output::{Page, Pen};
-use station::{Contents, Inboxes, Marks, Places, Reply};
+// Why the program ends before its input does.
+#[derive(Clone, Copy)]
+pub enum Stop {
+    UnknownLetter,
+    Overlong,
+    CutShort,
+    // What is to be written could not be, which has been said.
+    Closed,
+}
 
-// Where taking and writing stand, and whether the program is to end.
+impl From<Stopped> for Stop {
+    fn from(_stopped: Stopped) -> Stop {
+        Stop::Closed
+    }
+}
+
+impl From<fmt::Error> for Stop {
+    fn from(_error: fmt::Error) -> Stop {
+        Stop::Closed
+    }
+}
+
+// A station in memory of its own.
 #[derive(Drop)]
-struct Desk {
-    reader: Reader,
-    pen: Pen,
-    done: bool,
+struct Station {
+    marks: Marks,
+    places: Places,
+    contents: Contents,
+    inboxes: Inboxes,
 }
 
-// The end, at what is no record: which one, where it starts, and why, with the end of the line.
-fn refuse(rt: &HostRuntime, reader: Reader, pen: Pen, page: &mut Page, why: &[u8]) -> Desk {
-    let begun = output::put_all(rt, pen, page, b"?");
-    let numbered = output::put_number(rt, begun, page, reader.record);
-    let placed = output::put_number(rt, numbered, page, reader.start);
-    let told = output::put_all(rt, placed, page, why);
-    Desk {
-        reader,
-        pen: told,
-        done: true,
+impl Station {
+    // As all stations begin, with its eight lines closed.
+    fn new() -> Station {
+        Station {
+            marks: [[0; 6]; 8],
+            places: [[0; 4]; 8],
+            contents: [[0; 128]; 8],
+            inboxes: [[0; 256]; 8],
+        }
+    }
+
+    fn open(&mut self, line: u8, mode: u8) -> Result<(), Refusal> {
+        station::open(
+            &mut self.marks,
+            &mut self.places,
+            &self.contents,
+            &self.inboxes,
+            line,
+            mode,
+        )
+    }
+
+    fn deliver(&mut self, line: u8, bytes: &[u8]) -> Result<(), Refusal> {
+        station::deliver(
+            &self.marks,
+            &mut self.places,
+            &self.contents,
+            &mut self.inboxes,
+            line,
+            bytes,
+        )
+    }
+
+    fn round(&mut self, sheet: &mut [u8]) -> Result<[u8; 8], Refusal> {
+        station::round(
+            &mut self.marks,
+            &mut self.places,
+            &mut self.contents,
+            &self.inboxes,
+            sheet,
+        )
     }
 }
 
-// The end, at a record that could not be taken to its own end.
-fn stop(rt: &HostRuntime, reader: Reader, pen: Pen, page: &mut Page) -> Desk {
-    if reader.overlong {
-        refuse(rt, reader, pen, page, b" length over 4096\n")
-    } else {
-        refuse(rt, reader, pen, page, b" cut short\n")
+// What the records are taken from, what they are done with, and what their lines are laid on.
+#[derive(Drop)]
+struct Desk<'a> {
+    input: Input<'a>,
+    station: Station,
+    page: Page<'a>,
+}
+
+impl<'a> Desk<'a> {
+    fn new(streams: Streams<'a>) -> Desk<'a> {
+        Desk {
+            input: Input::new(streams),
+            station: Station::new(),
+            page: Page::new(streams),
+        }
     }
-}
 
-// The end of a line: the next record may come.
-fn finish(rt: &HostRuntime, reader: Reader, pen: Pen, page: &mut Page) -> Desk {
-    let told = output::put_all(rt, pen, page, b"\n");
-    Desk {
-        reader,
-        pen: told,
-        done: false,
+    fn open(&mut self) -> Result<(), Stop> {
+        let line = self.input.take()?;
+        let mode = self.input.take()?;
+        let reply = self.station.open(line, mode);
+        let number = station::number_of(reply);
+        writeln!(self.page, "O {number}")?;
+        Ok(())
     }
-}
 
-// The number of a byte, with room for sums.
-pub(crate) fn wide(byte: u8) -> usize
-    ensures { (result ≡ byte) × (result ≤ 255) }
-{
-    byte as usize
-}
-
-// The beginning of a line: the letter and the answer's number.
-fn begin(rt: &HostRuntime, pen: Pen, page: &mut Page, letter: &[u8], answer: u8) -> Pen {
-    let named = output::put_all(rt, pen, page, letter);
-    output::put_number(rt, named, page, wide(answer))
-}
-
-// The line of an opening or a delivery.
-fn tell(
-    rt: &HostRuntime,
-    reader: Reader,
-    pen: Pen,
-    page: &mut Page,
-    letter: &[u8],
-    reply: Reply,
-) -> Desk {
-    let begun = begin(rt, pen, page, letter, station::number_of(reply));
-    finish(rt, reader, begun, page)
-}
-
-fn opening(
-    rt: &HostRuntime,
-    marks: &mut Marks,
-    places: &mut Places,
-    contents: &mut Contents,
-    inboxes: &mut Inboxes,
-    reader: Reader,
-    pen: Pen,
-    piece: &mut Piece,
-    page: &mut Page,
-) -> Desk {
-    let line = input::take(rt, reader, piece);
-    let at_mode = line.reader;
-    let mode = input::take(rt, at_mode, piece);
-    let behind = mode.reader;
-    if behind.ended {
-        return stop(rt, behind, pen, page);
+    fn deliver(&mut self) -> Result<(), Stop> {
+        let mut room = [0; 4096];
+        let line = self.input.take()?;
+        let bytes = self.input.take_block(&mut room)?;
+        let reply = self.station.deliver(line, bytes);
+        let number = station::number_of(reply);
+        writeln!(self.page, "D {number}")?;
+        Ok(())
     }
-    let reply = station::open(marks, places, contents, inboxes, line.byte, mode.byte);
-    tell(rt, behind, pen, page, b"O", reply)
-}
 
-fn delivery(
-    rt: &HostRuntime,
-    marks: &mut Marks,
-    places: &mut Places,
-    contents: &mut Contents,
-    inboxes: &mut Inboxes,
-    reader: Reader,
-    pen: Pen,
-    piece: &mut Piece,
-    page: &mut Page,
-) -> Desk {
-    let mut room = [0u8; 4096];
-    let block = input::take_block(rt, reader, piece, &mut room);
-    let behind = block.reader;
-    let count = block.count;
-    if behind.ended {
-        return stop(rt, behind, pen, page);
+    fn round(&mut self) -> Result<(), Stop> {
+        let size = self.input.take_length()?;
+        let mut room = [self.input.take()?; 4096];
+        let sheet = &mut room[..size];
+        let told = self.station.round(sheet);
+        let number = station::number_of(told);
+        write!(self.page, "R {number}")?;
+        for count in told.unwrap_or([0; 8]) {
+            write!(self.page, " {count}")?;
+        }
+        put_hex(&mut self.page, sheet)?;
+        writeln!(self.page)?;
+        Ok(())
     }
-    let reply = station::deliver(
-        marks,
-        places,
-        contents,
-        inboxes,
-        block.byte,
-        &room[0..count],
-    );
-    tell(rt, behind, pen, page, b"D", reply)
-}
 
-fn put_counts(rt: &HostRuntime, pen: Pen, page: &mut Page, counts: [u8; 8]) -> Pen {
-    let mut after = pen;
-    let mut i = 0;
-    while i < 8 {
-        after = output::put_number(rt, after, page, wide(counts[i]));
-        i += 1;
+    fn judge(&mut self) -> Result<(), Stop> {
+        let mut room = [0; 4096];
+        let mode = self.input.take()?;
+        let content = self.input.take_block(&mut room)?;
+        let judgement = groups::judge(mode, content);
+        let number = groups::number_of(judgement);
+        write!(self.page, "J {number}")?;
+        match judgement {
+            Ok(fields) => {
+                for field in [fields.label, fields.stamp, fields.data] {
+                    put_hex(&mut self.page, groups::part(content, field))?;
+                }
+                writeln!(self.page, " 0")?;
+            }
+            Err(fault) => {
+                let place = fault.place;
+                writeln!(self.page, " - - - {place}")?;
+            }
+        }
+        Ok(())
     }
-    after
-}
 
-// A round with this sheet, and its line.
-fn serve(
-    rt: &HostRuntime,
-    marks: &mut Marks,
-    places: &mut Places,
-    contents: &mut Contents,
-    inboxes: &mut Inboxes,
-    reader: Reader,
-    pen: Pen,
-    page: &mut Page,
-    sheet: &mut [u8],
-) -> Desk {
-    let rounded = station::round(marks, places, contents, inboxes, sheet);
-    let counts = rounded.counts;
-    let reply = rounded.reply;
-    let begun = begin(rt, pen, page, b"R", station::number_of(reply));
-    let counted = put_counts(rt, begun, page, counts);
-    let shown = output::put_hex(rt, counted, page, sheet);
-    finish(rt, reader, shown, page)
-}
-
-fn round(
-    rt: &HostRuntime,
-    marks: &mut Marks,
-    places: &mut Places,
-    contents: &mut Contents,
-    inboxes: &mut Inboxes,
-    reader: Reader,
-    pen: Pen,
-    piece: &mut Piece,
-    page: &mut Page,
-) -> Desk {
-    let lent = input::take_lent(rt, reader, piece);
-    let behind = lent.reader;
-    let count = lent.count;
-    if behind.ended {
-        return stop(rt, behind, pen, page);
+    fn write(&mut self) -> Result<(), Stop> {
+        let mut label_room = [0; 255];
+        let mut stamp_room = [0; 255];
+        let mut data_room = [0; 255];
+        let mode = self.input.take()?;
+        let label = self.input.take_text(&mut label_room)?;
+        let stamp = self.input.take_text(&mut stamp_room)?;
+        let data = self.input.take_text(&mut data_room)?;
+        let size = self.input.take_length()?;
+        let mut room = [self.input.take()?; 4096];
+        let buffer = &mut room[..size];
+        let written = groups::write(mode, label, stamp, data, buffer);
+        let number = groups::number_of_writing(written);
+        let length = written.unwrap_or(0);
+        write!(self.page, "W {number} {length}")?;
+        put_hex(&mut self.page, buffer)?;
+        writeln!(self.page)?;
+        Ok(())
     }
-    let mut sheet = [lent.byte; 4096];
-    serve(
-        rt,
-        marks,
-        places,
-        contents,
-        inboxes,
-        behind,
-        pen,
-        page,
-        &mut sheet[0..count],
-    )
-}
 
-// Judges a content: its line, but for the end.
-fn judge(rt: &HostRuntime, pen: Pen, page: &mut Page, mode: u8, content: &[u8]) -> Pen {
-    let judgement = groups::judge(mode, content);
-    let judged = judgement.judged;
-    let verdict = judged.verdict;
-    let label = judged.label;
-    let stamp = judged.stamp;
-    let data = judged.data;
-    let begun = begin(rt, pen, page, b"J", groups::number_of(verdict));
-    let labelled = output::put_hex(rt, begun, page, groups::part(content, label));
-    let stamped = output::put_hex(rt, labelled, page, groups::part(content, stamp));
-    let filled = output::put_hex(rt, stamped, page, groups::part(content, data));
-    output::put_number(rt, filled, page, judgement.place)
-}
-
-fn judging(rt: &HostRuntime, reader: Reader, pen: Pen, piece: &mut Piece, page: &mut Page) -> Desk {
-    let mut room = [0u8; 4096];
-    let block = input::take_block(rt, reader, piece, &mut room);
-    let behind = block.reader;
-    let count = block.count;
-    if behind.ended {
-        return stop(rt, behind, pen, page);
+    // The record that begins with this letter.
+    // Kept as a match: five methods that take nothing but the desk, where a table of closures would be no plainer.
+    fn replay(&mut self, letter: u8) -> Result<(), Stop> {
+        match letter {
+            b'O' => self.open(),
+            b'D' => self.deliver(),
+            b'R' => self.round(),
+            b'J' => self.judge(),
+            b'W' => self.write(),
+            _ => Err(Stop::UnknownLetter),
+        }
     }
-    let shown = judge(rt, pen, page, block.byte, &room[0..count]);
-    finish(rt, behind, shown, page)
-}
 
-// Writes a group into this buffer: the line, but for the end.
-fn write(
-    rt: &HostRuntime,
-    pen: Pen,
-    page: &mut Page,
-    mode: u8,
-    label: &[u8],
-    stamp: &[u8],
-    data: &[u8],
-    buffer: &mut [u8],
-) -> Pen {
-    let written = groups::write(mode, label, stamp, data, buffer);
-    let outcome = written.outcome;
-    let begun = begin(rt, pen, page, b"W", groups::number_of_writing(outcome));
-    let counted = output::put_number(rt, begun, page, written.count);
-    output::put_hex(rt, counted, page, buffer)
-}
-
-fn writing(rt: &HostRuntime, reader: Reader, pen: Pen, piece: &mut Piece, page: &mut Page) -> Desk {
-    let mut label = [0u8; 255];
-    let mut stamp = [0u8; 255];
-    let mut data = [0u8; 255];
-    let mode = input::take(rt, reader, piece);
-    let at_label = mode.reader;
-    let labelled = input::take_text(rt, at_label, piece, &mut label);
-    let at_stamp = labelled.reader;
-    let stamped = input::take_text(rt, at_stamp, piece, &mut stamp);
-    let at_data = stamped.reader;
-    let filled = input::take_text(rt, at_data, piece, &mut data);
-    let at_lent = filled.reader;
-    let lent = input::take_lent(rt, at_lent, piece);
-    let behind = lent.reader;
-    if behind.ended {
-        return stop(rt, behind, pen, page);
-    }
-    let to_label = labelled.count;
-    let to_stamp = stamped.count;
-    let to_data = filled.count;
-    let count = lent.count;
-    let mut buffer = [lent.byte; 4096];
-    let shown = write(
-        rt,
-        pen,
-        page,
-        mode.byte,
-        &label[0..to_label],
-        &stamp[0..to_stamp],
-        &data[0..to_data],
-        &mut buffer[0..count],
-    );
-    finish(rt, behind, shown, page)
-}
-
-// The record that begins with this letter.
-fn replay(
-    rt: &HostRuntime,
-    marks: &mut Marks,
-    places: &mut Places,
-    contents: &mut Contents,
-    inboxes: &mut Inboxes,
-    reader: Reader,
-    pen: Pen,
-    piece: &mut Piece,
-    page: &mut Page,
-    letter: u8,
-) -> Desk {
-    match letter {
-        b'O' => opening(
-            rt, marks, places, contents, inboxes, reader, pen, piece, page,
-        ),
-        b'D' => delivery(
-            rt, marks, places, contents, inboxes, reader, pen, piece, page,
-        ),
-        b'R' => round(
-            rt, marks, places, contents, inboxes, reader, pen, piece, page,
-        ),
-        b'J' => judging(rt, reader, pen, piece, page),
-        b'W' => writing(rt, reader, pen, piece, page),
-        _ => refuse(rt, reader, pen, page, b" unknown letter\n"),
-    }
-}
-
-// Whoever waits for a line gets it before the program may have to wait for input.
-fn settled(rt: &HostRuntime, reader: Reader, pen: Pen, page: &mut Page) -> Pen {
-    if input::is_used_up(reader) {
-        return output::flush(rt, pen, page);
-    }
-    pen
-}
-
-fn replay_next(
-    rt: &HostRuntime,
-    marks: &mut Marks,
-    places: &mut Places,
-    contents: &mut Contents,
-    inboxes: &mut Inboxes,
-    desk: Desk,
-    piece: &mut Piece,
-    page: &mut Page,
-) -> Desk {
-    let reader = desk.reader;
-    let told = desk.pen;
-    let pen = settled(rt, reader, told, page);
-    if pen.closed {
-        return Desk {
-            reader,
-            pen,
-            done: true,
+    // The line of what is no record: which one, where it starts, and why.
+    fn refuse(&mut self, record: u64, start: usize, stop: Stop) -> fmt::Result {
+        let why = match stop {
+            Stop::UnknownLetter => "unknown letter",
+            Stop::Overlong => "length over 4096",
+            Stop::CutShort => "cut short",
+            Stop::Closed => return Err(fmt::Error),
         };
+        writeln!(self.page, "? {record} {start} {why}")
     }
-    let begun = input::at_record(reader);
-    let taken = input::take(rt, begun, piece);
-    let behind = taken.reader;
-    if behind.ended {
-        return Desk {
-            reader: behind,
-            pen,
-            done: true,
-        };
+
+    // Replays the records up to the end, or to what is none. A proved loop has to end, and nothing says that an input does:
+    // this one ends after more records than any input has.
+    fn replay_all(&mut self) -> Result<(), Stopped> {
+        for record in 1..=u64::MAX {
+            // Whoever waits for a line gets it before the program may have to wait for input.
+            if self.input.is_used_up() {
+                self.page.flush()?;
+            }
+            let start = self.input.place();
+            let Some(letter) = self.input.next_byte() else {
+                break;
+            };
+            if let Err(stop) = self.replay(letter) {
+                self.refuse(record, start, stop).map_err(|_| Stopped)?;
+                break;
+            }
+        }
+        self.page.flush()
     }
-    replay(
-        rt, marks, places, contents, inboxes, behind, pen, piece, page, taken.byte,
-    )
 }
 
-// A proved loop has to end, and nothing says that an input does: it counts down from a number that no run uses up.
+// What could not be read or written has been said.
 fn main(rt: HostRuntime) {
-    let mut piece = [0u8; 4096];
-    let mut page = [0u8; 4096];
-    let mut marks = [[0u8; 6]; 8];
-    let mut places = [[0u16; 4]; 8];
-    let mut contents = [[0u8; 128]; 8];
-    let mut inboxes = [[0u8; 256]; 8];
-    let mut desk = Desk {
-        reader: input::start(),
-        pen: output::start(),
-        done: false,
-    };
-    let mut turns = u64::MAX;
-    while turns > 0 && !desk.done {
-        desk = replay_next(
-            &rt,
-            &mut marks,
-            &mut places,
-            &mut contents,
-            &mut inboxes,
-            desk,
-            &mut piece,
-            &mut page,
-        );
-        turns -= 1;
-    }
-    let pen = desk.pen;
-    output::flush(&rt, pen, &mut page);
+    let _ = Desk::new(Streams::new(&rt, b"replay")).replay_all();
 }

@@ -9,10 +9,10 @@ use Rattle.characters.specs.Answers.{given, every, pick, first_of}
 use Rattle.characters.specs.Wire.{is_sound, character_of, STX, ETX, CR}
 use Rattle.groups.specs.Modes.{mode_of, separator}
 use Rattle.groups.specs.Groups.{Group}
-use Rattle.groups.specs.Judging.{judging, shown}
+use Rattle.groups.specs.Judging.{judging}
 use Rattle.groups.specs.Writing.{on_the_wire, off_the_wire, writing, told}
 use Rattle.groups.specs.Conditions.{label_of, given_when}
-use Rattle.groups.specs.Place.{place_of}
+use Rattle.groups.specs.Place.{place_of, judgement}
 use Rattle.groups.specs.FirstWrong.{WrongDataAt}
 use Rattle.groups.specs.WriterConditions.{written_when}
 use Rattle.groups.specs.Numbers.{number_of, number_of_writing}
@@ -115,7 +115,7 @@ pub accepted_exactly : (mode : ℕ) (c : List ℕ) (g : Group)
 accepted_exactly = groups.accepted_exactly
 
 -- Its number is that of the first of document 01's conditions that holds, in their order, and 1 where none does.
-pub refused_exactly : (mode : ℕ) (c : List ℕ) → number_of (shown (judging mode c)).verdict ≡ first_of 1 (given_when mode c)
+pub refused_exactly : (mode : ℕ) (c : List ℕ) → number_of (judgement mode c) ≡ first_of 1 (given_when mode c)
 refused_exactly = groups.refused_exactly
 
 -- Document 02, M-104, of a group on a line (`answers_right` says that the line's answers, their places too, are those due): with 14
@@ -135,16 +135,16 @@ others_unplaced = line.others_unplaced
 
 -- The same of a group given alone.
 pub data_place : (mode : ℕ) (m : Mode) → mode_of mode ≡ some m → (c : List ℕ)
-    → number_of (shown (judging mode c)).verdict ≡ 14 → WrongDataAt m c (place_of mode c)
+    → number_of (judgement mode c) ≡ 14 → WrongDataAt m c (place_of mode c)
 data_place = groups.data_place
 
 pub stamp_place : (mode : ℕ) (m : Mode) → mode_of mode ≡ some m → (c : List ℕ)
-    → number_of (shown (judging mode c)).verdict ≡ 12 → take (place_of mode c) c ≡ label_of m c ++ separator m ∷ []
+    → number_of (judgement mode c) ≡ 12 → take (place_of mode c) c ≡ label_of m c ++ separator m ∷ []
 stamp_place = groups.stamp_place
 
 pub other_place : (mode : ℕ) (c : List ℕ)
-    → T (not (eqb (number_of (shown (judging mode c)).verdict) 12))
-    → T (not (eqb (number_of (shown (judging mode c)).verdict) 14))
+    → T (not (eqb (number_of (judgement mode c)) 12))
+    → T (not (eqb (number_of (judgement mode c)) 14))
     → place_of mode c ≡ 0
 other_place = groups.other_place
 
@@ -167,7 +167,7 @@ written_on_a_line = line.written_by_bytes
 
 -- A writing's number is that of the first of document 01's conditions that holds, in their order, and 0 where none does.
 pub writer_refused_exactly : (mode : ℕ) (g : Group) (room : ℕ)
-    → number_of_writing (told (writing mode g room)).outcome ≡ first_of 0 (written_when mode g room)
+    → number_of_writing (told (writing mode g room)) ≡ first_of 0 (written_when mode g room)
 writer_refused_exactly = groups.writer_refused_exactly
 
 -- ---- Demand 3: bytes in order, none lost or twice; answers by the line's own bytes; in time

@@ -18,7 +18,7 @@ use Rattle.station.specs.Lines.{over, turning}
 use Rattle.station.specs.Stations.{zero_line}
 use Rattle.station.specs.Sheets.{entry_of, offset_of, two_bytes, offsets, joined, entries}
 use Rattle.station.specs.Rounds.{tells}
-use Rattle.station.specs.Parts.{entry_heard, offset_heard, told_by, ServesLines}
+use Rattle.station.specs.Parts.{entry_heard, offset_heard, told_by, TakesTurns}
 use Rattle.station.proofs.Laws.Views.{Long, Longs, one_line, turn_view, turn_short}
 use Rattle.station.specs.Records.{StationLine, Turned}
 use Rattle.station.proofs.Copying.{paste_over}
@@ -298,7 +298,7 @@ all_served ls sheet e hs h =
 -- what the loop leaves is what the turns of the lines leave
 pub serves_all : (ls : List StationLine) (sheet : List ℕ) (v : Progress) → length ls ≡ 8 → Longs ls
     → 1096 ≤ length sheet → served_all ls sheet ≡ v
-    → ServesLines ls sheet v.lines v.counts v.offsets v.sheet
+    → TakesTurns ls sheet v.lines v.counts v.offsets v.sheet
 serves_all ls sheet v e hs h ev =
     let d : Done v [] ls [] [] (take 24 sheet) sheet 24 = rw ev at (all_served ls sheet e hs h) in
     record { lines_are = d.lines_are; counts_are = d.counts_are; offsets_are = d.offsets_are; sheet_is = d.sheet_is }

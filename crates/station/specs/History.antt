@@ -9,7 +9,7 @@ use Rattle.line.specs.Entries.{Entry, Framed, entry_list}
 use Rattle.station.specs.Numbers.{number_of}
 use Rattle.station.specs.Stations.{all_closed, called, opening, delivering}
 use Rattle.station.specs.Sheets.{Told}
-use Rattle.station.specs.Rounds.{round}
+use Rattle.station.specs.Rounds.{round, counts_of}
 use Rattle.station.specs.Reading.{read_turn}
 use Rattle.station.specs.Records.{Station}
 
@@ -39,8 +39,8 @@ gets s (delivers i bytes) =
     record { number = number_of (called s (delivering s i bytes)).reply; counts = []; lent = bytes }
 gets s (serves sheet) =
     record {
-      number = number_of (round s sheet).result.reply;
-      counts = (round s sheet).result.counts;
+      number = number_of (round s sheet).result.told;
+      counts = counts_of (round s sheet).result.told;
       lent = (round s sheet).sheet;
     }
 

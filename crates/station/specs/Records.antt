@@ -1,8 +1,8 @@
 -- The station, as the definitions and the contracts speak of it. It lies in four lent arrays (`Memory.antt`).
-use Rattle.std.specs.Prelude.{List, ℕ}
+use Rattle.std.specs.Prelude.{List, ℕ, Result}
 use Rattle.line.specs.declared.LineState.{LineState}
 use Rattle.line.specs.declared.Heard.{Heard}
-use Rattle.station.specs.declared.Reply.{Reply}
+use Rattle.station.specs.declared.Refusal.{Refusal}
 
 -- a line: 0 in `opened` is a closed one, and `count` bytes wait in the inbox, from place `first` on
 pub record StationLine : Type 0 where
@@ -19,13 +19,12 @@ pub record Station : Type 0 where
 -- the station after an opening or a delivery, and what is told of the call
 pub record Called : Type 0 where
   pub station : Station
-  pub reply : Reply
+  pub reply : Result (Unit {0}) Refusal
 
--- the station after a round, how many bytes each line's turn took, and what is told of the round itself
+-- the station after a round, and what is told of it: how many bytes each line's turn took, or why it is refused
 pub record Rounded : Type 0 where
   pub station : Station
-  pub counts : List ℕ
-  pub reply : Reply
+  pub told : Result (List ℕ) Refusal
 
 -- what a turn did: the line afterwards, how many bytes it took, and what was heard at the last of them
 pub record Turned : Type 0 where

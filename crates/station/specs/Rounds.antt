@@ -1,5 +1,6 @@
 -- A round (document 01, "The station"): each line's turn, the counts, and the lent sheet afterwards.
-use Rattle.std.specs.Prelude.{◌≡◌, List, map, ℕ, leb, length, replicate}
+use Rattle.std.specs.Prelude.{◌≡◌, List, map, ℕ, leb, length, replicate, Result, Ok, Err}
+use Rattle.std.specs.Result.{result_unwrap_or}
 use Rattle.characters.specs.Answers.{Answer, refused, given, need}
 use Rattle.line.specs.Entries.{framed_if}
 use Rattle.line.specs.State.{frame_of}
@@ -10,7 +11,6 @@ use Rattle.station.specs.Sheets.{Told, smallest_sheet, sheet_of}
 use Rattle.station.specs.Records.{Station, Rounded, Turned}
 use Rattle.station.specs.declared.Refusal.{Refusal}
 use Rattle.station.specs.declared.Refusal.TheVariants.{SheetShort}
-use Rattle.station.specs.declared.Reply.TheVariants.{Done, Refused}
 
 -- "A round goes through lines 0 to 7." "18: sheet under 1,096 bytes"
 unfoldable pub turns : Station → List ℕ → Answer Refusal (List Turned)
@@ -39,20 +39,23 @@ after_turns ts sheet =
     record {
       result = record {
         station = record { lines = map (λ (t : Turned). t.line) ts };
-        counts = map (λ (t : Turned). t.count) ts;
-        reply = Done;
+        told = Ok (map (λ (t : Turned). t.count) ts);
       };
       sheet = over (sheet_of (map tells ts)) sheet;
     }
 
--- "A refused round gives eight zero counts", and nothing is changed
+-- where the round is refused, nothing is changed
 abbrev pub round_by : Station → List ℕ → Answer Refusal (List Turned) → RoundDone
 round_by s sheet (given ts) = after_turns ts sheet
 round_by s sheet (refused refusal) =
-    record { result = record { station = s; counts = replicate 8 0; reply = Refused refusal }; sheet = sheet }
+    record { result = record { station = s; told = Err refusal }; sheet = sheet }
 
 abbrev pub round : Station → List ℕ → RoundDone
 round s sheet = round_by s sheet (turns s sheet)
+
+-- the counts that a caller has of a round: "A refused round gives eight zero counts"
+abbrev pub counts_of : Result (List ℕ) Refusal → List ℕ
+counts_of told = result_unwrap_or told (replicate 8 0)
 
 -- a result and a sheet are those of a round
 pub record Round (a : RoundDone) (result : Rounded) (sheet : List ℕ) : Type 0 where

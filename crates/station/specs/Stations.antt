@@ -1,15 +1,13 @@
 -- The station's openings and deliveries (document 01, "The station"): the next station, or a refusal, which changes
 -- nothing.
-use Rattle.std.specs.Prelude.{List, [], ℕ, ltb, get_or, set, replicate}
+use Rattle.std.specs.Prelude.{List, [], ℕ, ltb, get_or, set, replicate, Ok, Err, Option, Some, None}
 use Rattle.characters.specs.Answers.{Answer, refused, given, need}
+use Rattle.line.specs.declared.LineState.{LineState}
 use Rattle.line.specs.State.{opening_of}
-use Rattle.line.specs.declared.Opening.{Opening}
-use Rattle.line.specs.declared.Opening.TheVariants as line
 use Rattle.station.specs.Lines.{opened_as, filling}
 use Rattle.station.specs.Records.{StationLine, Station, Called}
 use Rattle.station.specs.declared.Refusal.{Refusal}
 use Rattle.station.specs.declared.Refusal.TheVariants.{LineUnknown, ModeUnknown}
-use Rattle.station.specs.declared.Reply.TheVariants.{Done, Refused}
 
 -- a line of zeros, with the bytes that it keeps
 abbrev pub zero_line : List ℕ → List ℕ → StationLine
@@ -36,13 +34,13 @@ with_line s i l = record { lines = set s.lines i l }
 
 -- what a call hands back: the next station, or the station as it was and why
 abbrev pub called : Station → Answer Refusal Station → Called
-called s (given next) = record { station = next; reply = Done }
-called s (refused refusal) = record { station = s; reply = Refused refusal }
+called s (given next) = record { station = next; reply = Ok tt }
+called s (refused refusal) = record { station = s; reply = Err refusal }
 
 -- the opening of line i, by what the line itself makes of the mode
-abbrev pub opening_by : Station → ℕ → Opening → Answer Refusal Station
-opening_by s i (line.Opened state) = given (with_line s i (opened_as (line_at s i) state))
-opening_by s i line.ModeUnknown = refused ModeUnknown
+abbrev pub opening_by : Station → ℕ → Option LineState → Answer Refusal Station
+opening_by s i (Some state) = given (with_line s i (opened_as (line_at s i) state))
+opening_by s i None = refused ModeUnknown
 
 -- "Opening: 16, 19."
 unfoldable pub opening : Station → ℕ → ℕ → Answer Refusal Station

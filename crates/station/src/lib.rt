@@ -11,19 +11,18 @@
 // gathers the four arrays, as they are when a call begins (`old`), and when it has returned (`new`).
 #![tactic(auto)]
 
-mod copy;
 mod inbox;
-mod known;
+mod row;
 mod serve;
 mod sheet;
 mod turn;
 
 ghost use Rattle.std.specs.Prelude.{◌≡◌};
-ghost use Rattle.station.specs.Numbers.{number_of, number_of_refusal};
+ghost use Rattle.station.specs.Numbers.{number_of};
 ghost use Rattle.station.specs.Memory.{behind};
 ghost use Rattle.station.specs.CallContracts.{Opens, Delivers, Serves};
 
-use line::Opening;
+use crate::row::Row;
 
 // A row for each line.
 pub type Marks = [[u8; 6]; 8];
@@ -37,27 +36,14 @@ pub type Inboxes = [[u8; 256]; 8];
 // The bytes that a lent sheet must have.
 pub const SMALLEST_SHEET: usize = 1096;
 
-// Why a call is refused.
-#[derive(Clone, Copy)]
+// Why a call is refused, with document 01's numbers.
+#[derive(Clone, Copy, PartialEq, Eq)]
 pub enum Refusal {
-    NoRoom,
-    LineUnknown,
-    LineClosed,
-    SheetShort,
-    ModeUnknown,
-}
-
-#[derive(Clone, Copy)]
-pub enum Reply {
-    Done,
-    Refused(Refusal),
-}
-
-// How many bytes each line's turn took, and what is told of the round itself.
-#[derive(Clone, Copy)]
-pub struct RoundTold {
-    pub counts: [u8; 8],
-    pub reply: Reply,
+    NoRoom = 15,
+    LineUnknown = 16,
+    LineClosed = 17,
+    SheetShort = 18,
+    ModeUnknown = 19,
 }
 
 // Opens a line in a mode: its inbox is empty then, the line outside of every frame, and its frame number 0.
@@ -68,24 +54,26 @@ pub fn open(
     inboxes: &Inboxes,
     line: u8,
     mode: u8,
-) -> Reply
+) -> Result<(), Refusal>
     ensures { Opens (behind marks.old places.old contents.now inboxes.now) line mode result
         (behind marks.new places.new contents.now inboxes.now) }
 {
-    known::sized(*marks, *places, *contents, *inboxes);
-    if line < 8 {
-        let opening = line::open(mode);
-        match opening {
-            Opening::Opened(state) => {
-                let at = line as usize;
-                inbox::opened(&mut marks[at], &mut places[at], state);
-                Reply::Done
-            }
-            Opening::ModeUnknown => Reply::Refused(Refusal::ModeUnknown),
-        }
-    } else {
-        Reply::Refused(Refusal::LineUnknown)
+    if line >= 8 {
+        return Err(Refusal::LineUnknown);
     }
+    let Some(state) = line::open(mode) else {
+        return Err(Refusal::ModeUnknown);
+    };
+    let row = Row {
+        opened: 1,
+        state,
+        first: 0,
+        count: 0,
+    };
+    let at = line as usize;
+    marks[at] = row.marks();
+    places[at] = row.places();
+    Ok(())
 }
 
 // Adds bytes to the inbox of an open line, all of them or none.
@@ -96,70 +84,46 @@ pub fn deliver(
     inboxes: &mut Inboxes,
     line: u8,
     bytes: &[u8],
-) -> Reply
+) -> Result<(), Refusal>
     ensures { Delivers (behind marks.now places.old contents.now inboxes.old) line bytes.now result
         (behind marks.now places.new contents.now inboxes.new) }
 {
-    known::sized(*marks, *places, *contents, *inboxes);
-    if line < 8 {
-        let at = line as usize;
-        return inbox::fill(
-            &marks[at],
-            &mut places[at],
-            &contents[at],
-            &mut inboxes[at],
-            bytes,
-        );
+    if line >= 8 {
+        return Err(Refusal::LineUnknown);
     }
-    Reply::Refused(Refusal::LineUnknown)
+    let at = line as usize;
+    inbox::fill(
+        &marks[at],
+        &mut places[at],
+        &contents[at],
+        &mut inboxes[at],
+        bytes,
+    )
 }
 
-// Gives each open line its turn, and tells of the turns on the lent sheet.
+// Gives each open line its turn, tells of the turns on the lent sheet, and returns how many bytes each turn took.
 pub fn round(
     marks: &mut Marks,
     places: &mut Places,
     contents: &mut Contents,
     inboxes: &Inboxes,
     sheet: &mut [u8],
-) -> RoundTold
+) -> Result<[u8; 8], Refusal>
     ensures { Serves (behind marks.old places.old contents.old inboxes.now) sheet.old result
         (behind marks.new places.new contents.new inboxes.now) sheet.new }
 {
     if sheet.len() < SMALLEST_SHEET {
-        return RoundTold {
-            counts: [0u8; 8],
-            reply: Reply::Refused(Refusal::SheetShort),
-        };
+        return Err(Refusal::SheetShort);
     }
-    let served = serve::serve(marks, places, contents, inboxes, sheet);
-    let counts = served.counts;
-    let offsets = served.offsets;
-    copy::copy_in(sheet, 0, &counts);
-    copy::copy_in(sheet, 8, &offsets);
-    RoundTold {
-        counts,
-        reply: Reply::Done,
-    }
+    Ok(serve::serve(marks, places, contents, inboxes, sheet))
 }
 
-// Document 01's number of a reply.
-pub fn number_of(reply: Reply) -> u8
+// Document 01's number of what a call returned.
+pub fn number_of<T: Drop>(reply: Result<T, Refusal>) -> u8
     ensures { result ≡ number_of reply }
 {
     match reply {
-        Reply::Done => 0,
-        Reply::Refused(refusal) => refusal_number(refusal),
-    }
-}
-
-fn refusal_number(refusal: Refusal) -> u8
-    ensures { result ≡ number_of_refusal refusal }
-{
-    match refusal {
-        Refusal::NoRoom => 15,
-        Refusal::LineUnknown => 16,
-        Refusal::LineClosed => 17,
-        Refusal::SheetShort => 18,
-        Refusal::ModeUnknown => 19,
+        Ok(_) => 0,
+        Err(refusal) => refusal as u8,
     }
 }

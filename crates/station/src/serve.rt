@@ -1,49 +1,55 @@
-// The turns of a round, and their entries.
-ghost use Rattle.std.specs.Prelude.{◌≤◌, length};
+// The turns of a round, and what the sheet tells of them.
+ghost use Rattle.std.specs.Prelude.{◌≡◌, ◌≤◌, length};
 ghost use Rattle.station.specs.Memory.{behind, station_in};
-ghost use Rattle.station.specs.Parts.{ServesLines};
+ghost use Rattle.station.specs.Parts.{ServesLines, TakesTurns};
 
-use crate::{Contents, Inboxes, Marks, Places, known, sheet, turn};
+use crate::sheet::Pen;
+use crate::{Contents, Inboxes, Marks, Places, turn};
 
-// The counts, and the offsets of the entries.
-#[derive(Clone, Copy)]
-pub struct Served {
-    pub counts: [u8; 8],
-    pub offsets: [u8; 16],
-}
-
-// Gives each open line its turn and puts the entries on the sheet, from byte 24 on. A closed line leaves the zeros of its
-// count and its offset.
+// Gives each open line its turn, and tells of the turns on the sheet. Returns the counts.
 pub(crate) fn serve(
     marks: &mut Marks,
     places: &mut Places,
     contents: &mut Contents,
     inboxes: &Inboxes,
     sheet: &mut [u8],
-) -> Served
+) -> [u8; 8]
     requires { 1096 ≤ length sheet.old }
     ensures { ServesLines (station_in (behind marks.old places.old contents.old inboxes.now)).lines sheet.old
-        (station_in (behind marks.new places.new contents.new inboxes.now)).lines result.counts result.offsets sheet.new }
+        (station_in (behind marks.new places.new contents.new inboxes.now)).lines result sheet.new }
 {
-    known::sized(*marks, *places, *contents, *inboxes);
-    let mut counts = [0u8; 8];
-    let mut offsets = [0u8; 16];
-    let mut at = 24;
-    let mut i = 0;
-    while i < 8 {
-        if marks[i][0] == 0 {
-            i += 1;
+    let (counts, offsets) = turns(marks, places, contents, inboxes, sheet);
+    sheet[..8].copy_from_slice(&counts);
+    sheet[8..24].copy_from_slice(&offsets);
+    counts
+}
+
+// Gives each open line its turn, and puts its entry. Returns the counts, and the offsets of the entries; those of a closed
+// line stay zeros.
+fn turns(
+    marks: &mut Marks,
+    places: &mut Places,
+    contents: &mut Contents,
+    inboxes: &Inboxes,
+    sheet: &mut [u8],
+) -> ([u8; 8], [u8; 16])
+    requires { 1096 ≤ length sheet.old }
+    ensures { TakesTurns (station_in (behind marks.old places.old contents.old inboxes.now)).lines sheet.old
+        (station_in (behind marks.new places.new contents.new inboxes.now)).lines result.0 result.1 sheet.new }
+{
+    let mut counts = [0; 8];
+    let mut offsets = [0; 16];
+    let mut pen = Pen { sheet, at: 24 };
+    for i in 0..8 {
+        let told = turn::turn(&mut marks[i], &mut places[i], &mut contents[i], &inboxes[i]);
+        let Some(took) = told else {
             continue;
-        }
-        let took = turn::turn(&mut marks[i], &mut places[i], &mut contents[i], &inboxes[i]);
-        let heard = took.heard;
+        };
         counts[i] = took.count;
-        let offset = sheet::offset_of(heard, at);
-        offsets[2 * i] = (offset % 256) as u8;
-        offsets[2 * i + 1] = (offset / 256 % 256) as u8;
-        let content = contents[i];
-        at = sheet::put_entry(sheet, at, heard, took.frame, content);
-        i += 1;
+        let offset = pen.put_entry(took.heard, took.frame, contents[i]);
+        let [low, high] = offset.to_le_bytes();
+        offsets[2 * i] = low;
+        offsets[2 * i + 1] = high;
     }
-    Served { counts, offsets }
+    (counts, offsets)
 }

@@ -1,7 +1,8 @@
 -- What the contracts of the crate cite. Assumes nothing.
-use Rattle.std.specs.Prelude.{ℕ, ℤ, pos, negsuc, ◌≡◌, ◌≤◌}
+use Rattle.std.specs.Prelude.{ℕ, ◌≤◌, Result, Ok, Err}
+use Rattle.streams.specs.declared.Stopped.{Stopped}
 
--- What a reading into n bytes may answer: -1, or how many bytes came, at most n.
-abbrev pub Moved : ℕ → ℤ → Type 0
-Moved n (pos k) = k ≤ n
-Moved n (negsuc k) = k ≡ 0
+-- What a reading into n bytes may answer: that it can't be read, or how many bytes came, at most n.
+abbrev pub Moved : ℕ → Result ℕ Stopped → Type 0
+Moved n (Ok k) = k ≤ n
+Moved n (Err e) = Unit {0}

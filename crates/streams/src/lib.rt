@@ -5,64 +5,81 @@
 // What comes in and whether it goes out is up to the system, so no contract can fix these two results.
 #![tactic(auto)]
 
-ghost use Rattle.std.specs.Prelude.{length, ◌≡◌, true};
+mod page;
+
+ghost use Rattle.std.specs.Prelude.{length, ◌≡◌, IsOk};
 ghost use Rattle.streams.specs.Streams.{Moved};
 
+pub use page::Page;
 use std::io;
 use std::io::{ErrorKind, Read};
 
-// Reads once, and tells how many bytes came to the start of the piece: 0 at the end of the input, and -1 where it can't
-// be read, which has been said.
-pub fn read(rt: &HostRuntime, program: &[u8], piece: &mut [u8]) -> isize
-    ensures { Moved (length piece.old) result }
-{
-    let mut input = rt.stdin();
-    match input.read(piece) {
-        Ok(count) => count as isize,
-        Err(error) => {
-            complain(rt, program, b"standard input", error);
-            -1
-        }
-    }
+// Why a program stops: something could not be read or written. What there is to say of that has been said.
+#[derive(Clone, Copy, Debug, PartialEq, Eq)]
+pub struct Stopped;
+
+// Standard input and output, and the name of the program that what is said begins with.
+#[derive(Clone, Copy)]
+pub struct Streams<'a> {
+    rt: &'a HostRuntime,
+    program: &'a [u8],
 }
 
-// Writes a text, and tells whether all of it went out. Where it did not, that has been said, but for a pipe that nobody
-// reads any more: whoever closed it knows. No text at all is always out.
-pub fn print(rt: &HostRuntime, program: &[u8], text: &[u8]) -> bool
-    ensures { length text.now ≡ 0 → result ≡ true }
-{
-    if text.len() == 0 {
-        return true;
+impl<'a> Streams<'a> {
+    pub fn new(rt: &'a HostRuntime, program: &'a [u8]) -> Streams<'a>
+        ensures { result.program.now ≡ program.now }
+    {
+        Streams { rt, program }
     }
-    match rt.write_all(text) {
-        Ok(()) => true,
-        Err(error) => {
-            if error.kind() != ErrorKind::BrokenPipe {
-                complain(rt, program, b"standard output", error);
+
+    // Reads once, and tells how many bytes came to the start of the piece: 0 at the end of the input. Where it can't be
+    // read, that has been said.
+    pub fn read(&self, piece: &mut [u8]) -> Result<usize, Stopped>
+        ensures { Moved (length piece.old) result }
+    {
+        let mut input = self.rt.stdin();
+        input
+            .read(piece)
+            .map_err(|error| self.complain(b"standard input", error))
+    }
+
+    // Writes all of a text. Where not all of it went out, that has been said, but for a pipe that nobody reads any more:
+    // whoever closed it knows. No text at all is always out.
+    pub fn print(&self, text: &[u8]) -> Result<(), Stopped>
+        ensures { length text.now ≡ 0 → IsOk result }
+    {
+        if text.is_empty() {
+            return Ok(());
+        }
+        self.rt.write_all(text).map_err(|error| {
+            if error.kind() == ErrorKind::BrokenPipe {
+                return Stopped;
             }
-            false
-        }
+            self.complain(b"standard output", error)
+        })
     }
-}
 
-// Says what the program can't read or write, and the system's reason.
-fn complain(rt: &HostRuntime, program: &[u8], what: &[u8], error: io::Error) {
-    let told = rt.stderr();
-    let _ = told.write_all(program);
-    let _ = told.write_all(b": ");
-    let _ = told.write_all(what);
-    let _ = told.write_all(b": ");
-    let _ = say_reason(rt, error);
-    let _ = told.write_all(b"\n");
-}
+    // Says what the program can't read or write, and the system's reason.
+    fn complain(&self, what: &[u8], error: io::Error) -> Stopped {
+        let told = self.rt.stderr();
+        let _ = told.write_all(self.program);
+        let _ = told.write_all(b": ");
+        let _ = told.write_all(what);
+        let _ = told.write_all(b": ");
+        let _ = self.say_reason(error);
+        let _ = told.write_all(b"\n");
+        Stopped
+    }
 
-// The system's reason in its words, without the number that std sets behind them. With no memory for that, as std has it.
-fn say_reason(rt: &HostRuntime, error: io::Error) -> io::Result<()> {
-    let Ok(text) = format!(in rt.alloc(); "{error}") else {
-        return rt.eprint(error);
-    };
-    match text.split_once(" (os error ") {
-        Some((words, _)) => rt.eprint(words),
-        None => rt.eprint(text.as_str()),
+    // The system's reason in its words, without the number that std sets behind them. With no memory for that, as std has
+    // it.
+    fn say_reason(&self, error: io::Error) -> io::Result<()> {
+        let Ok(text) = format!(in self.rt.alloc(); "{error}") else {
+            return self.rt.eprint(error);
+        };
+        match text.split_once(" (os error ") {
+            Some((words, _)) => self.rt.eprint(words),
+            None => self.rt.eprint(text.as_str()),
+        }
     }
 }

@@ -19,7 +19,7 @@ use Rattle.groups.specs.Table.{Entry, business_rows, rows, lookup, plain}
 use Rattle.groups.specs.Stamps.{is_stamped}
 use Rattle.groups.specs.Groups.{group_of}
 use Rattle.groups.specs.Numbers.{number_of, number_of_writing}
-use Rattle.groups.specs.Judging.{judging, shown}
+use Rattle.groups.specs.Place.{judgement}
 use Rattle.groups.specs.Writing.{writing, told}
 use Rattle.groups.specs.Spelled.{among, spelled}
 use Rattle.groups.specs.Made.{is_field, made_of, some_made}
@@ -146,7 +146,7 @@ stamp_not_asked body none h = refl
 stamp_not_asked body (some rule) h = rw (h rule refl)
 
 -- reading in mode 2 never answers 12
-pub never_twelve : (c : List ℕ) → T (not (eqb (number_of (shown (judging 2 c)).verdict) 12))
+pub never_twelve : (c : List ℕ) → T (not (eqb (number_of (judgement 2 c)) 12))
 unfolding given_when conditions
 never_twelve c =
     let o = lookup (label_of Business c) (rows Business) in
@@ -155,7 +155,7 @@ never_twelve c =
 
 -- and writing in mode 2 answers 12 to any stamp
 pub stamp_refused : (label : List ℕ) (rule : Rule) → In label rule (rows Business) → (x : ℕ) (rest d : List ℕ) (room : ℕ)
-    → number_of_writing (told (writing 2 (group_of label (x ∷ rest) d) room)).outcome ≡ 12
+    → number_of_writing (told (writing 2 (group_of label (x ∷ rest) d) room)) ≡ 12
 unfolding written_when first_of pick
 stamp_refused label rule listed x rest d room =
     let found = found_listed Business label rule listed in

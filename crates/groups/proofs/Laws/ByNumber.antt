@@ -10,14 +10,15 @@ use Rattle.characters.specs.Wire.{is_sound}
 use Rattle.groups.specs.Modes.{mode_of, is_mode}
 use Rattle.groups.specs.Kinds.{within}
 use Rattle.groups.specs.Groups.{Group, read, compose}
-use Rattle.groups.specs.Numbers.{number_of_refusal, number_of}
+use Rattle.groups.specs.Numbers.{number_of_refusal, number_of, number_as}
 use Rattle.groups.specs.Judging.{judging, shown}
 use Rattle.groups.specs.Writing.{on_the_wire, off_the_wire, composing, into, writing}
 use Rattle.groups.specs.Conditions.{conditions, given_when, fields_at}
+use Rattle.groups.specs.Place.{place_of, judgement}
 use Rattle.groups.specs.Right.{RightGroup}
 use Rattle.groups.proofs.Laws.Groups.{read_exactly_written}
 use Rattle.groups.proofs.Laws.Right.{right_exactly}
-use Rattle.groups.proofs.Laws.Named.{number_as, first_number, first_given}
+use Rattle.groups.proofs.Laws.Named.{first_number, first_given}
 use Rattle.groups.proofs.Laws.Conditions.{named, named_numbers, read_by_conditions}
 use Rattle.groups.proofs.Laws.OnTheWire.{are_plain, written_plain, written_small, on_length, off_on, on_sound}
 use Rattle.groups.proofs.Laws.Unknown.{not_mode, judging_no_mode}
@@ -59,9 +60,9 @@ module _ (number : ℕ) (c : List ℕ) (g : Group) where
 -- ---- Judging and the conditions
 
 -- an answer's number as judging tells it
-pub told_as : (a : Answer Refusal Group) → number_of (shown a).verdict ≡ number_as 1 a
-told_as (refused refusal) = refl
-told_as (given g) = refl
+pub told_as : (a : Answer Refusal Group) (place : ℕ) → number_of (shown a place) ≡ number_as 1 a
+told_as (refused refusal) place = refl
+told_as (given g) place = refl
 
 -- reading tells the number of the first condition that holds, and 1 where none does
 pub read_number : (m : Mode) (c : List ℕ) → number_as 1 (read m c) ≡ first_of 1 (conditions m c)
@@ -70,11 +71,11 @@ read_number m c =
 
 -- and so judging does
 pub judged_first : (number : ℕ) (c : List ℕ)
-    → number_of (shown (judging number c)).verdict ≡ first_of 1 (given_when number c)
+    → number_of (judgement number c) ≡ first_of 1 (given_when number c)
 unfolding judging mode_of found given_when first_of pick
-judged_first zero c = told_as (judging 0 c) ∙ read_number Historic c
-judged_first (suc zero) c = told_as (judging 1 c) ∙ read_number Standard c
-judged_first (suc (suc zero)) c = told_as (judging 2 c) ∙ read_number Business c
+judged_first zero c = told_as (judging 0 c) (place_of 0 c) ∙ read_number Historic c
+judged_first (suc zero) c = told_as (judging 1 c) (place_of 1 c) ∙ read_number Standard c
+judged_first (suc (suc zero)) c = told_as (judging 2 c) (place_of 2 c) ∙ read_number Business c
 judged_first (suc (suc (suc number))) c = rw (judging_no_mode (suc (suc (suc number))) (omega arith) c)
 
 module _ (number : ℕ) (m : Mode) (known : mode_of number ≡ some m) (c : List ℕ) where
@@ -109,7 +110,7 @@ first_told ((n, false) ∷ more) t = first_told more (and_yes (is_judged (n, fal
 
 -- judging in a known mode tells 1, or 8 to 14: "a mode not 0 to 2" and "lent buffer too short" are not its answers
 pub judged_number : (number : ℕ) → is_mode number ≡ true → (c : List ℕ)
-    → T (within 1 14 (number_of (shown (judging number c)).verdict))
+    → T (within 1 14 (number_of (judgement number c)))
 unfolding given_when first_of pick conditions
 judged_number zero e c = rw (judged_first 0 c) (first_told (conditions Historic c) tt)
 judged_number (suc zero) e c = rw (judged_first 1 c) (first_told (conditions Standard c) tt)

@@ -18,7 +18,8 @@ use Rattle.groups.proofs.Laws.Tests.{split, equal_or}
 use Rattle.groups.proofs.Laws.Groups.{total_end}
 use Rattle.groups.proofs.Laws.Table.{listed_right}
 use Rattle.groups.proofs.Laws.Made.{kind_agrees, width_agrees}
-use Rattle.groups.proofs.Laws.Named.{first_refusal, number_as, numbered, first_number}
+use Rattle.groups.specs.Numbers.{number_as}
+use Rattle.groups.proofs.Laws.Named.{first_refusal, numbered, first_number}
 use Rattle.groups.proofs.Laws.Places.{
   fields_plain,
   fields_short,

@@ -3,8 +3,8 @@ use Rattle.std.specs.Prelude.{◌≡◌, Bool, true, false, not, ℕ, ◌≤◌}
 use Rattle.std.proofs.Math.Path.{refl}
 use mathlib.Core.List.{List, [], ◌∷◌}
 use Rattle.std.proofs.Common.{lit≤}
-use Rattle.characters.specs.Answers.{Answer, refused, given, not_given, need, pick, first_of}
-use Rattle.groups.specs.Numbers.{number_of_refusal}
+use Rattle.characters.specs.Answers.{Answer, given, not_given, need, pick, first_of}
+use Rattle.groups.specs.Numbers.{number_of_refusal, number_as}
 use Rattle.groups.specs.declared.Refusal.{Refusal}
 use Rattle.groups.specs.declared.Refusal.TheVariants.{
   TooLong,
@@ -23,11 +23,6 @@ module _ {A : Type 0} where
   unfoldable pub first_refusal : List (Refusal × Bool) → A → Answer Refusal A
   first_refusal [] a = given a
   first_refusal ((refusal, holds) ∷ more) a = need (not holds) refusal (first_refusal more a)
-
-  -- the number of an answer, n being that of a value
-  abbrev pub number_as : ℕ → Answer Refusal A → ℕ
-  number_as n (refused refusal) = number_of_refusal refusal
-  number_as n (given a) = n
 
 -- the numbers of refusals begin with 8: none is that of a value, 0 or 1, or of a frame's end
 pub refusal_number : (refusal : Refusal) → 8 ≤ number_of_refusal refusal

@@ -10,16 +10,17 @@ use Rattle.std.proofs.Math.Dec.{T, eqb, ltb, ltb→lt, nltb→le}
 use Rattle.std.proofs.Math.ListN.{length-drop}
 use Rattle.std.proofs.Math.Seq.{length-take-le, take-suc}
 use Rattle.std.proofs.Math.Facts.{and_yes, or_yes, or_no, T_not-not}
-use Rattle.characters.specs.Answers.{pick, pick_no, first_of}
+use Rattle.characters.specs.Answers.{Answer, refused, given, pick, pick_no, first_of}
 use Rattle.groups.specs.Modes.{mode_of, separator}
 use Rattle.groups.specs.Formats.{Rule}
 use Rattle.groups.specs.Table.{rows, lookup}
 use Rattle.groups.specs.Stamps.{is_stamped, stamp_right}
-use Rattle.groups.specs.Numbers.{number_of}
+use Rattle.groups.specs.Groups.{Group}
+use Rattle.groups.specs.Numbers.{number_of_refusal, number_of, number_as}
 use Rattle.groups.specs.Judging.{judging, shown}
 use Rattle.groups.specs.Made.{some_made}
 use Rattle.groups.specs.Conditions.{first_at, final_place, label_of, body_of, misshapen, check_wrong, unlisted, stamp_followed, stamp_wrong, data_in, outside, width_wrong, kind_wrong, conditions}
-use Rattle.groups.specs.Place.{first_wrong, next_place, wrong_place, place_for, place_by, place_in, place_of}
+use Rattle.groups.specs.Place.{first_wrong, next_place, wrong_place, place_for, place_by, place_in, place_of, judgement, place_told}
 use Rattle.groups.specs.FirstWrong.{FirstWrong, WrongDataAt}
 use Rattle.groups.proofs.Laws.Tests.{equal_or}
 use Rattle.groups.proofs.Laws.Table.{listed_right}
@@ -27,6 +28,8 @@ use Rattle.groups.proofs.Laws.Conditions.{Shaped, shape, first_there}
 use Rattle.groups.proofs.Laws.ByNumber.{judged_read, told_as, read_number}
 use Rattle.groups.proofs.Laws.FirstWrong.{rule_wrong, wrong_once, unfit_some}
 use Rattle.groups.specs.declared.Mode.{Mode}
+use Rattle.groups.specs.declared.Refusal.{Refusal}
+use Rattle.groups.specs.declared.Refusal.TheVariants.{TooLong, Misshapen, CheckWrong, LabelUnknown, StampWrong, WidthWrong, KindWrong, NoRoom, ModeUnknown}
 
 -- ---- The place by the number
 
@@ -34,6 +37,19 @@ use Rattle.groups.specs.declared.Mode.{Mode}
 pub no_place : (n next wrong : ℕ) → T (not (eqb n 12)) → T (not (eqb n 14)) → place_for n next wrong ≡ 0
 unfolding place_for
 no_place n next wrong h k = pick_no (eqb n 12) _ _ h ∙ pick_no (eqb n 14) wrong 0 k
+
+-- so has a refusal of another kind
+pub placed_nowhere : (r : Refusal) (next wrong : ℕ) → (r ≡ StampWrong → ⊥) → (r ≡ KindWrong → ⊥) → 0 ≡ place_for (number_of_refusal r) next wrong
+unfolding place_for pick
+placed_nowhere TooLong next wrong h k = refl
+placed_nowhere Misshapen next wrong h k = refl
+placed_nowhere CheckWrong next wrong h k = refl
+placed_nowhere LabelUnknown next wrong h k = refl
+placed_nowhere StampWrong next wrong h k = absurd (h refl)
+placed_nowhere WidthWrong next wrong h k = refl
+placed_nowhere KindWrong next wrong h k = absurd (k refl)
+placed_nowhere NoRoom next wrong h k = refl
+placed_nowhere ModeUnknown next wrong h k = refl
 
 -- and the two that have one
 pub place_twelve : (n next wrong : ℕ) → n ≡ 12 → place_for n next wrong ≡ next
@@ -140,13 +156,16 @@ module _ (m : Mode) (c : List ℕ) where
 -- ---- What judging tells
 
 module _ (number : ℕ) (m : Mode) (known : mode_of number ≡ some m) (c : List ℕ) where
-  told_number : number_of (shown (judging number c)).verdict ≡ first_of 1 (conditions m c)
-  told_number = told_as (judging number c) ∙ rw (judged_read number m known c) (read_number m c)
+  answered : number_as 1 (judging number c) ≡ first_of 1 (conditions m c)
+  answered = rw (judged_read number m known c) (read_number m c)
+
+  told_number : number_of (judgement number c) ≡ first_of 1 (conditions m c)
+  told_number = told_as (judging number c) (place_of number c) ∙ answered
 
   -- the place that is told is the one by the first condition that holds
   pub place_known : place_of number c ≡ place_by m c (first_of 1 (conditions m c))
   unfolding place_of
-  place_known = rw (told_number, known)
+  place_known = rw (answered, known)
 
   -- up to the place of 12 stand the label and its separator
   pub stamp_placed : first_of 1 (conditions m c) ≡ 12 → take (place_of number c) c ≡ label_of m c ++ separator m ∷ []
@@ -205,7 +224,7 @@ module _ (number : ℕ) (m : Mode) (known : mode_of number ≡ some m) (c : List
 
   -- the same by the number that judging tells
   abbrev number_told : ℕ
-  number_told = number_of (shown (judging number c)).verdict
+  number_told = number_of (judgement number c)
 
   pub stamp_told : number_told ≡ 12 → take (place_of number c) c ≡ label_of m c ++ separator m ∷ []
   stamp_told q = stamp_placed (sym told_number ∙ q)
@@ -229,14 +248,25 @@ placed_small number c = go (mode_of number) refl
 
 -- and a number that is neither 12 nor 14 has none
 pub others_told : (number : ℕ) (c : List ℕ)
-    → T (not (eqb (number_of (shown (judging number c)).verdict) 12)) → T (not (eqb (number_of (shown (judging number c)).verdict) 14))
+    → T (not (eqb (number_of (judgement number c)) 12)) → T (not (eqb (number_of (judgement number c)) 14))
     → place_of number c ≡ 0
 unfolding place_of place_by
 others_told number c h k = go (mode_of number)
   where
-    go : (o : Option Mode) → place_in o c (number_of (shown (judging number c)).verdict) ≡ 0
+    other : (n : ℕ) → T (not (eqb (number_of (judgement number c)) n)) → T (not (eqb (number_as 1 (judging number c)) n))
+    other n = subst (λ (k : ℕ). T (not (eqb k n))) (told_as (judging number c) (place_of number c))
+
+    go : (o : Option Mode) → place_in o c (number_as 1 (judging number c)) ≡ 0
     go none = refl
-    go (some m) = no_place _ _ _ h k
+    go (some m) = no_place _ _ _ (other 12 h) (other 14 k)
+
+-- so the place of a judgement is the one that is told with the refusal, and 0 where there is none
+pub faults_placed : (number : ℕ) (c : List ℕ) → place_told (judgement number c) ≡ place_of number c
+faults_placed number c = go (judging number c) refl
+  where
+    go : (a : Answer Refusal Group) → judging number c ≡ a → place_told (shown a (place_of number c)) ≡ place_of number c
+    go (refused refusal) e = refl
+    go (given g) e = sym (others_told number c (rw e tt) (rw e tt))
 
 -- ---- There is one such place
 

@@ -12,8 +12,8 @@ use Rattle.groups.specs.Formats.{Rule}
 use Rattle.groups.specs.Table.{standard_rows, rows, same, lookup}
 use Rattle.groups.specs.Stamps.{date_right, is_stamped, stamp_as, stamp_right}
 use Rattle.groups.specs.Groups.{group_of, check, content, read}
-use Rattle.groups.specs.Numbers.{number_of, number_of_writing}
-use Rattle.groups.specs.Judging.{judging, shown}
+use Rattle.groups.specs.Numbers.{number_of, number_of_writing, number_as}
+use Rattle.groups.specs.Place.{judgement}
 use Rattle.groups.specs.Writing.{writing, told}
 use Rattle.groups.specs.Conditions.{stamp_followed, data_in, field_conditions, given_when}
 use Rattle.groups.specs.WriterConditions.{stamp_unfit, room_for, fields_unfit, written_when}
@@ -22,7 +22,6 @@ use Rattle.groups.specs.Seasons.{Season, winter, summer, letter_of, degraded, pe
 use Rattle.groups.proofs.Laws.Tests.{split, same→eq}
 use Rattle.groups.proofs.Laws.Table.{listed_right}
 use Rattle.groups.proofs.Laws.Groups.{total_end, content_length, read_listed}
-use Rattle.groups.proofs.Laws.Named.{number_as}
 use Rattle.groups.proofs.Laws.Conditions.{fields_number}
 use Rattle.groups.proofs.Laws.Known.{eight_long}
 use Rattle.groups.proofs.Laws.ByNumber.{read_number, judged_first}
@@ -120,14 +119,14 @@ module _ (season : Season) (label rest d : List ℕ) (room : ℕ) where
 
   -- writing tells of the small letter what it tells of the capital
   pub degraded_told : (number : ℕ)
-      → number_of_writing (told (writing number (group_of label (degraded season ∷ rest) d) room)).outcome
-      ≡ number_of_writing (told (writing number (group_of label (letter_of season ∷ rest) d) room)).outcome
+      → number_of_writing (told (writing number (group_of label (degraded season ∷ rest) d) room))
+      ≡ number_of_writing (told (writing number (group_of label (letter_of season ∷ rest) d) room))
   degraded_told number =
       written_first number _ room ∙ degraded_when number ∙ sym (written_first number _ room)
 
 -- for DPM and FPM it tells 12 where the season is no space
 pub peak_told : (label : List ℕ) (x : ℕ) (rest d : List ℕ) (room : ℕ) → T (is_peak label) → T (not (eqb x SP))
-    → number_of_writing (told (writing 1 (group_of label (x ∷ rest) d) room)).outcome ≡ 12
+    → number_of_writing (told (writing 1 (group_of label (x ∷ rest) d) room)) ≡ 12
 unfolding written_when first_of pick
 peak_told label x rest d room t n =
     let (rule, listed, spaced) = peak_rule label t in
@@ -143,7 +142,7 @@ closed_is label body = rw (total_end (label ++ HT ∷ body) HT) (simp append_ass
 
 -- the number that judging tells of a content
 abbrev judged : List ℕ → ℕ
-judged c = number_of (shown (judging 1 c)).verdict
+judged c = number_of (judgement 1 c)
 
 -- 8 where it is too long
 long_is_eight : (c : List ℕ) → 128 < length c → judged c ≡ 8
@@ -179,8 +178,8 @@ module _ (label : List ℕ) (rule : Rule) (listed : lookup label (rows Standard)
 
   -- of a stamped label, it tells of the small letter what it tells of the capital
   pub degraded_judged : (season : Season) (rest : List ℕ) → T (is_stamped rule.mark)
-      → number_of (shown (judging 1 (closed (label ++ HT ∷ degraded season ∷ rest)))).verdict
-      ≡ number_of (shown (judging 1 (closed (label ++ HT ∷ letter_of season ∷ rest)))).verdict
+      → number_of (judgement 1 (closed (label ++ HT ∷ degraded season ∷ rest)))
+      ≡ number_of (judgement 1 (closed (label ++ HT ∷ letter_of season ∷ rest)))
   degraded_judged season rest t =
       let small = degraded season ∷ rest in
       let capital = letter_of season ∷ rest in
@@ -196,7 +195,7 @@ module _ (label : List ℕ) (rule : Rule) (listed : lookup label (rows Standard)
 -- of DPM and FPM it tells 12 where the season is no space
 pub peak_judged : (label : List ℕ) (x : ℕ) (rest : List ℕ) → T (is_peak label) → T (not (eqb x SP))
     → length (closed (label ++ HT ∷ x ∷ rest)) ≤ 128
-    → number_of (shown (judging 1 (closed (label ++ HT ∷ x ∷ rest)))).verdict ≡ 12
+    → number_of (judgement 1 (closed (label ++ HT ∷ x ∷ rest))) ≡ 12
 peak_judged label x rest t n h =
     let (rule, listed, spaced) = peak_rule label t in
     let e = closed_is label (x ∷ rest) in

@@ -1,7 +1,7 @@
 -- The stretches that judging shows are the fields, and lie inside the content.
-use Rattle.std.specs.Prelude.{◌≡◌, Bool, ℕ, zero, suc, ◌+◌, ◌≤◌, ◌<◌, T, length, take, drop, get_or}
+use Rattle.std.specs.Prelude.{◌≡◌, Bool, ℕ, zero, suc, ◌+◌, ◌≤◌, ◌<◌, T, length, take, drop, get_or, Ok}
 use Rattle.std.proofs.Math.Path.{refl}
-use Rattle.std.proofs.Common.{sym, ◌∙◌, subst, arith, le→leb, length-drop, take_at, drop_at, take-take, length-take-le, get_or-take, get_or-drop}
+use Rattle.std.proofs.Common.{sym, ap, ◌∙◌, subst, arith, le→leb, length-drop, take_at, drop_at, take-take, length-take-le, get_or-take, get_or-drop}
 use Rattle.std.proofs.Math.Bool.{true, false}
 use mathlib.Core.List.{List, [], ◌∷◌, ◌++◌, append_assoc}
 use Rattle.std.proofs.Math.ListN.{length-append}
@@ -11,7 +11,8 @@ use Rattle.groups.specs.Modes.{separator}
 use Rattle.groups.specs.Formats.{Rule}
 use Rattle.groups.specs.Stamps.{is_stamped, stamp_as}
 use Rattle.groups.specs.Groups.{Group, content, body}
-use Rattle.groups.specs.Judging.{judging, stamp_span, stamp_stretch, shown, part_of, part_start, Shows, Inside}
+use Rattle.groups.specs.Judging.{judging, stamp_span, stamp_stretch, places_of, shown, stretches_of, part_of, part_start, Shows, Inside}
+use Rattle.groups.specs.Place.{place_of, judgement}
 use Rattle.groups.specs.Inside.{RightFields, stamp_room}
 use Rattle.groups.proofs.Laws.Groups.{length_zero, stamp_length, body_length, content_length, read_given}
 use Rattle.groups.specs.declared.Mode.{Mode}
@@ -55,7 +56,7 @@ module _ (m : Mode) (l s d t : List ℕ) (k : Mark) where
 
 -- the content of a group, and what is shown of the group
 content_shows : (m : Mode) (g : Group) (r : Rule) → RightFields r g.stamp g.«data»
-    → Shows (content m g.label (body m (is_stamped r.mark) g.stamp g.«data»)) (shown (given g)) g
+    → Shows (content m g.label (body m (is_stamped r.mark) g.stamp g.«data»)) (places_of g) g
 unfolding content
 content_shows m g r f =
     record {
@@ -65,19 +66,19 @@ content_shows m g r f =
     }
 
 -- what judging shows of a content that it accepts are the fields
-pub shows : (number : ℕ) (c : List ℕ) (g : Group) → judging number c ≡ given g → Shows c (shown (judging number c)) g
+pub shows : (number : ℕ) (c : List ℕ) (g : Group) → judging number c ≡ given g → (judgement number c ≡ Ok (places_of g)) × Shows c (places_of g) g
 unfolding judging
 shows number c g e =
     let (m, em, h) = found_given _ _ _ e in
     let i = read_given m c g h in
-    rw e (subst (λ (c : List ℕ). Shows c (shown (given g)) g) i.whole (content_shows m g i.rule i.fields))
+    (ap (λ (a : Answer Refusal Group). shown a (place_of number c)) e, subst (λ (c : List ℕ). Shows c (places_of g) g) i.whole (content_shows m g i.rule i.fields))
 
 -- ---- Inside the content
 
 -- what is shown of a group, in any n bytes that have room for label, body and three characters more
 group_inside : (g : Group) (b : Bool) (n : ℕ) → length g.stamp ≡ pick b 13 0
     → n ≡ length g.label + (stamp_room b + length g.«data») + 3
-    → Inside n (shown (given g))
+    → Inside n (places_of g)
 unfolding stamp_stretch stamp_span pick
 group_inside g false n s h =
     record {
@@ -96,7 +97,7 @@ group_inside g true n s h =
 
 -- the content of a group, and what is shown of the group
 content_inside : (m : Mode) (g : Group) (r : Rule) → RightFields r g.stamp g.«data»
-    → Inside (length (content m g.label (body m (is_stamped r.mark) g.stamp g.«data»))) (shown (given g))
+    → Inside (length (content m g.label (body m (is_stamped r.mark) g.stamp g.«data»))) (places_of g)
 content_inside m g r f =
     let b = is_stamped r.mark in
     let k = body_length m b r.mark g.stamp g.«data» f.stamp_is_right in
@@ -104,11 +105,11 @@ content_inside m g r f =
     (omega (arith, k, content_length m g.label (body m b g.stamp g.«data»)))
 
 -- what judging shows of a content lies inside it
-pub shown_inside : (number : ℕ) (c : List ℕ) → Inside (length c) (shown (judging number c))
+pub shown_inside : (number : ℕ) (c : List ℕ) → Inside (length c) (stretches_of (judgement number c))
 unfolding judging
 shown_inside number c = go (judging number c) refl
   where
-    go : (a : Answer Refusal Group) → judging number c ≡ a → Inside (length c) (shown a)
+    go : (a : Answer Refusal Group) → judging number c ≡ a → Inside (length c) (stretches_of (shown a (place_of number c)))
     go (refused refusal) e =
         record {
           label_inside = omega arith;
@@ -119,7 +120,7 @@ shown_inside number c = go (judging number c) refl
     go (given g) e =
         let (m, em, h) = found_given _ _ _ e in
         let i = read_given m c g h in
-        subst (λ (c : List ℕ). Inside (length c) (shown (given g))) i.whole (content_inside m g i.rule i.fields)
+        subst (λ (c : List ℕ). Inside (length c) (places_of g)) i.whole (content_inside m g i.rule i.fields)
 
 -- ---- A stretch inside the first n bytes
 

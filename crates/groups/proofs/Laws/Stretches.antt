@@ -11,7 +11,8 @@ use Rattle.groups.specs.Table.{rows, lookup}
 use Rattle.groups.specs.Stamps.{is_stamped, stamp_right}
 use Rattle.groups.specs.Groups.{Group, content, body, read}
 use Rattle.groups.specs.Numbers.{number_of_refusal}
-use Rattle.groups.specs.Judging.{judging, shown, stamp_span, stamp_stretch}
+use Rattle.groups.specs.Judging.{judging, places_of, shown, stretches_of, stamp_span, stamp_stretch}
+use Rattle.groups.specs.Place.{place_of, judgement}
 use Rattle.groups.specs.Conditions.{first_at, final_place, label_of, conditions, marked_fields, fields_at}
 use Rattle.groups.specs.Stretches.{
   six_numbers,
@@ -46,7 +47,7 @@ first_behind s (x ∷ l) a t =
 -- the six numbers of a group with this mark
 numbers_by : (mark : Mark) (g : Group) (final : ℕ) → T (stamp_right mark g.stamp)
     → final ≡ length g.label + 1 + stamp_room (is_stamped mark) + length g.«data»
-    → six_numbers (shown (given g)) ≡ stretches_by mark (length g.label) final
+    → six_numbers (places_of g) ≡ stretches_by mark (length g.label) final
 unfolding stamp_span stamp_stretch pick
 numbers_by Unstamped g final t e =
     let n = stamp_length false Unstamped g.stamp t in
@@ -84,7 +85,7 @@ module _ (m : Mode) (c : List ℕ) (g : Group) (e : read m c ≡ given g) where
       rw (← i.whole)
       (first_behind (separator m) g.label _ (listed_right m g.label i.rule i.listed).no_separator)
 
-  given_numbers : six_numbers (shown (given g)) ≡ stretches_as (lookup (label_of m c) (rows m)) (first_at (separator m) c) (final_place c)
+  given_numbers : six_numbers (places_of g) ≡ stretches_as (lookup (label_of m c) (rows m)) (first_at (separator m) c) (final_place c)
   given_numbers =
       let i = read_given m c g e in
       let r = i.rule in
@@ -100,12 +101,12 @@ module _ (m : Mode) (c : List ℕ) (g : Group) (e : read m c ≡ given g) where
 
 -- ---- All of it
 
-read_numbers : (m : Mode) (c : List ℕ) → six_numbers (shown (read m c)) ≡ stretches_in m c
+read_numbers : (m : Mode) (c : List ℕ) (place : ℕ) → six_numbers (stretches_of (shown (read m c) place)) ≡ stretches_in m c
 unfolding stretches_in pick
-read_numbers m c = go (read m c) refl
+read_numbers m c place = go (read m c) refl
   where
     go : (a : Answer Refusal Group) → read m c ≡ a
-        → six_numbers (shown a)
+        → six_numbers (stretches_of (shown a place))
         ≡ pick (eqb (first_of 1 (conditions m c)) 1)
         (stretches_as (lookup (label_of m c) (rows m)) (first_at (separator m) c) (final_place c))
         no_stretches
@@ -113,9 +114,9 @@ read_numbers m c = go (read m c) refl
     go (given g) e = rw (← (read_number m c), e) (given_numbers m c g e)
 
 -- the stretches that judging shows are those by places
-pub judged_stretches : (number : ℕ) (c : List ℕ) → six_numbers (shown (judging number c)) ≡ stretches_due number c
+pub judged_stretches : (number : ℕ) (c : List ℕ) → six_numbers (stretches_of (judgement number c)) ≡ stretches_due number c
 unfolding judging mode_of found pick stretches_due
-judged_stretches zero c = read_numbers Historic c
-judged_stretches (suc zero) c = read_numbers Standard c
-judged_stretches (suc (suc zero)) c = read_numbers Business c
+judged_stretches zero c = read_numbers Historic c (place_of 0 c)
+judged_stretches (suc zero) c = read_numbers Standard c (place_of 1 c)
+judged_stretches (suc (suc zero)) c = read_numbers Business c (place_of 2 c)
 judged_stretches (suc (suc (suc number))) c = rw (judging_no_mode (suc (suc (suc number))) (omega arith) c)

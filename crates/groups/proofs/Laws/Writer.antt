@@ -12,7 +12,7 @@ use Rattle.groups.specs.Table.{rows, lookup}
 use Rattle.groups.specs.Stamps.{is_stamped, stamp_as, stamp_right}
 use Rattle.groups.specs.Fields.{width_right, kind_right, checked}
 use Rattle.groups.specs.Groups.{Group, content, body, compose}
-use Rattle.groups.specs.Numbers.{number_of_writing}
+use Rattle.groups.specs.Numbers.{number_of_writing, number_as}
 use Rattle.groups.specs.Writing.{on_the_wire, into, writing, told}
 use Rattle.groups.specs.WriterConditions.{stamp_unfit, room_for_stamp, room_for, fields_unfit, written_when}
 use Rattle.groups.specs.Made.{some_made}
@@ -22,7 +22,7 @@ use Rattle.groups.proofs.Laws.Table.{listed_right}
 use Rattle.groups.proofs.Laws.Groups.{body_length, content_length}
 use Rattle.groups.proofs.Laws.OnTheWire.{on_length}
 use Rattle.groups.proofs.Laws.Made.{kind_agrees, width_agrees, le_or}
-use Rattle.groups.proofs.Laws.Named.{first_refusal, number_as, first_number}
+use Rattle.groups.proofs.Laws.Named.{first_refusal, first_number}
 use Rattle.groups.proofs.Laws.Unknown.{writing_no_mode}
 use Rattle.groups.specs.declared.Mode.{Mode}
 use Rattle.groups.specs.declared.Mode.TheVariants.{Historic, Standard, Business}
@@ -110,7 +110,7 @@ module _ (m : Mode) (rule : Rule) (g : Group) (room : ℕ) where
 -- ---- All of it
 
 -- an answer's number as writing tells it
-pub told_as : (a : Answer Refusal (List ℕ)) → number_of_writing (told a).outcome ≡ number_as 0 a
+pub told_as : (a : Answer Refusal (List ℕ)) → number_of_writing (told a) ≡ number_as 0 a
 told_as (refused refusal) = refl
 told_as (given w) = refl
 
@@ -127,7 +127,7 @@ listed_told m g room (some rule) h =
 
 -- writing tells the number of the first condition that holds, and 0 where none does
 pub written_first : (number : ℕ) (g : Group) (room : ℕ)
-    → number_of_writing (told (writing number g room)).outcome ≡ first_of 0 (written_when number g room)
+    → number_of_writing (told (writing number g room)) ≡ first_of 0 (written_when number g room)
 unfolding writing compose found written_when first_of mode_of pick
 written_first zero g room = told_as (writing 0 g room) ∙ listed_told Historic g room (lookup g.label (rows Historic)) refl
 written_first (suc zero) g room = told_as (writing 1 g room) ∙ listed_told Standard g room (lookup g.label (rows Standard)) refl

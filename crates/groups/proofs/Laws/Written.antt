@@ -6,11 +6,11 @@ use Rattle.characters.specs.Answers.{Answer, refused, given, not_given, need_giv
 use Rattle.groups.specs.Modes.{mode_of}
 use Rattle.groups.specs.Table.{rows, lookup}
 use Rattle.groups.specs.Groups.{Group, compose}
-use Rattle.groups.specs.Numbers.{number_of_refusal}
-use Rattle.groups.specs.Writing.{on_the_wire, into, writing, told, left}
+use Rattle.groups.specs.Numbers.{number_of_refusal, number_as}
+use Rattle.groups.specs.Writing.{on_the_wire, into, writing, told, count_of, left}
 use Rattle.groups.specs.WriterConditions.{count_for, count_due, Leaves, bytes_of}
 use Rattle.groups.proofs.Laws.Groups.{compose_given}
-use Rattle.groups.proofs.Laws.Named.{number_as, refusal_number}
+use Rattle.groups.proofs.Laws.Named.{refusal_number}
 use Rattle.groups.proofs.Laws.Unknown.{writing_no_mode}
 use Rattle.groups.proofs.Laws.ByNumber.{into_given}
 use Rattle.groups.proofs.Laws.Writer.{room_due, told_as, written_first}
@@ -29,13 +29,13 @@ into_fits room (given c) w e =
 
 -- and are as many as were counted
 in_mode_count : (m : Mode) (g : Group) (room : ℕ)
-    → (told (into room (compose m g))).count
+    → count_of (told (into room (compose m g)))
     ≡ pick (eqb (number_as 0 (into room (compose m g))) 0) (count_for g (lookup g.label (rows m))) 0
 unfolding pick
 in_mode_count m g room = go (into room (compose m g)) refl
   where
     go : (a : Answer Refusal (List ℕ)) → into room (compose m g) ≡ a
-        → (told a).count ≡ pick (eqb (number_as 0 a) 0) (count_for g (lookup g.label (rows m))) 0
+        → count_of (told a) ≡ pick (eqb (number_as 0 a) 0) (count_for g (lookup g.label (rows m))) 0
     go (refused refusal) e = rw (ne_eqb (number_of_refusal refusal) 0 (λ z. omega (arith, refusal_number refusal)))
     go (given w) e =
         let (c, k, q) = into_given room (compose m g) w e in
@@ -45,7 +45,7 @@ in_mode_count m g room = go (into room (compose m g)) refl
         ∙ room_due m i.rule g room i.fields.stamp_is_right
         ∙ sym (ap {B = ℕ} (count_for g) i.listed)
 
-pub written_counted : (number : ℕ) (g : Group) (room : ℕ) → (told (writing number g room)).count ≡ count_due number g room
+pub written_counted : (number : ℕ) (g : Group) (room : ℕ) → count_of (told (writing number g room)) ≡ count_due number g room
 unfolding writing found mode_of pick count_due
 written_counted zero g room =
     in_mode_count Historic g room

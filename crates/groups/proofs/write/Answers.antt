@@ -1,19 +1,18 @@
 -- A known mode is written, an unknown one is 19.
-use Rattle.groups.proofs.Laying.{write_mode, write_nowhere, wrote_as}
-use Rattle.groups.proofs.Views.{chosen_none, chosen_some}
+use Rattle.std.proofs.Common.{sym}
+use Rattle.std.specs.Prelude.{length}
+use Rattle.std.proofs.lemmas.Result.{err_from_is_err_and}
+use Rattle.groups.proofs.Laying.{write_mode, write_nowhere, wrote_as, wrote_nothing}
 use Rattle.groups.specs.Groups.{group_of}
-use lib.ListN.{length}
-use mathlib.Core.Path.{◌∙◌, sym}
 use Rattle.groups.proofs.write.Goals as goal
 
-pub returns-in-Known : goal.returns-in-Known
-returns-in-Known c =
-    wrote_as c.args.buffer.now _ _ (write_mode c.args.mode (group_of c.args.label.now c.args.stamp.now c.args.«data».now)
-    (length c.args.buffer.now) _ (chosen_some _ _ (sym c.mode_of-chosen.ensures ∙ c.in-Known.is)))
-    c.write_in.ensures
+pub returns-in_err-try_from : goal.returns-in_err-try_from
+returns-in_err-try_from c =
+    let p = err_from_is_err_and c.from_residual.result c.from_residual.ensures.1 in
+    let g = group_of c.args.label.now c.args.stamp.now c.args.«data».now in
+    rw (p.1, p.2) (wrote_nothing c.args.buffer.now _ (write_nowhere c.args.mode g (length c.args.buffer.now) (sym c.in_err-try_from.ensures)))
 
-pub returns-in-Unknown : goal.returns-in-Unknown
-returns-in-Unknown c =
-    wrote_as c.args.buffer.now _ _ (write_nowhere c.args.mode (group_of c.args.label.now c.args.stamp.now c.args.«data».now)
-    (length c.args.buffer.now) (chosen_none _ (sym c.mode_of-chosen.ensures ∙
-    c.in-Unknown.is))) c.stop.ensures
+pub returns : goal.returns
+returns c =
+    wrote_as c.args.buffer.now _ _ (write_mode c.args.mode (group_of c.args.label.now c.args.stamp.now c.args.«data».now)
+    (length c.args.buffer.now) (sym c.in_ok-try_from.ensures)) c.write_in.ensures

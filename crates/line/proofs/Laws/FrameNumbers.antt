@@ -52,7 +52,7 @@ module _ {A : Type 0} (f : A → Bool) where
 -- ---- The number after a byte
 
 -- "one more at every STX", by the test of the byte
-at_stx : (n b : ℕ) → frame_at n (symbol_of b) ≡ pick (is STX b) (next_frame n) n
+pub at_stx : (n b : ℕ) → frame_at n (symbol_of b) ≡ pick (is STX b) (next_frame n) n
 unfolding pick
 at_stx n b = rw (tests b).0 (go (symbol_of b))
   where

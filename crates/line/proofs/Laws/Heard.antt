@@ -6,7 +6,7 @@ use Rattle.groups.specs.Groups.{group_of}
 use Rattle.groups.proofs.Laws.Shown.{part_inside}
 use Rattle.line.specs.Steps.{heard_answer}
 use Rattle.line.specs.Views.{FieldsInside}
-use Rattle.line.specs.declared.Fields.{Fields}
+use Rattle.groups.specs.declared.Fields.{Fields}
 use Rattle.line.specs.declared.Notice.{Notice}
 use Rattle.line.specs.declared.Heard.TheVariants.{Nothing, Accepted, Told}
 

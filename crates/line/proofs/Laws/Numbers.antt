@@ -1,5 +1,5 @@
 -- Every answer of a line has a number of 1 to 14, and an opening is 0 or 19.
-use Rattle.std.specs.Prelude.{◌≡◌, refl, Bool, true, false, List, [], ◌∷◌, ℕ, T}
+use Rattle.std.specs.Prelude.{◌≡◌, refl, Bool, true, false, List, [], ◌∷◌, ℕ, T, Some, None}
 use Rattle.std.proofs.Common.{sym, ◌∙◌, arith}
 use Rattle.std.proofs.Math.Option.{Option, none, some}
 use Rattle.std.proofs.Math.Facts.{yes_and}
@@ -20,7 +20,6 @@ use Rattle.line.specs.Numbers as Numbers
 use Rattle.line.specs.State.{line_of, state_of, opening_of}
 use Rattle.line.specs.Steps.{heard_answer}
 use Rattle.line.proofs.Views.{opened_view}
-use Rattle.line.specs.declared.Opening.TheVariants.{Opened, ModeUnknown}
 use Rattle.line.specs.Symbols.{symbol_of}
 use Rattle.line.proofs.Laws.Bytes.{step_at}
 use Rattle.line.proofs.Laws.Openings.{opening_known, opening_unknown}
@@ -42,7 +41,7 @@ are_numbered none = true
 are_numbered (some a) = is_numbered a
 
 -- the line's number for the reader's word is the reader's
-same_number : (a : Answer Refusal Group) (place : ℕ) → number_of_answer (of_group a place) ≡ number_of (shown a).verdict
+same_number : (a : Answer Refusal Group) (place : ℕ) → number_of_answer (of_group a place) ≡ number_of (shown a place)
 same_number (refused refusal) place = refl
 same_number (given g) place = refl
 
@@ -103,7 +102,7 @@ unfolding opening_of pick
 opening_numbered mode = go (is_mode mode)
   where
     go : (known : Bool)
-        → number_of_opening (pick known (Opened (state_of mode 0 Outside 0)) ModeUnknown) ≡ pick known 0 19
+        → number_of_opening (pick known (Some (state_of mode 0 Outside 0)) None) ≡ pick known 0 19
     go true = refl
     go false = refl
 
@@ -130,7 +129,7 @@ heard_place (Told notice) content = refl
 
 -- ---- A line that is opened
 
-pub opened_outside : (mode : ℕ) (l : LineState) (content : List ℕ) → opening_of mode ≡ Opened l
+pub opened_outside : (mode : ℕ) (l : LineState) (content : List ℕ) → opening_of mode ≡ Some l
     → (line_of l content ≡ outside) × (l.mode ≡ mode) × (l.frame ≡ 0)
 opened_outside mode l content q = go (is_mode mode) refl
   where

@@ -1,73 +1,51 @@
 -- What is left of the bytes decides.
-use borrow.Author.Rules.{rules}
-use Prim.Native.Nat.{◌+◌, ◌≤◌}
-use Rattle.line.proofs.Feeding.{as_fed, feed_accepted, feed_on, feed_over, feed_told}
-use Rattle.line.proofs.InRows.{run_most, run_on, stepped_as}
-use lib.ListN.{length}
-use mathlib.Core.Path.{◌∙◌, refl}
-use native.Mathlib.Omega.{arith}
+use Rattle.std.proofs.Common.{◌≡◌, ◌∙◌, ◌+◌, ◌-◌, length, arith, rules}
+use Rattle.line.proofs.Feeding.{as_fed, feed_on, feed_heard, fed_none, none_of, cut_of}
+use Rattle.line.proofs.InRows.{as_written}
 use Rattle.line.proofs.feed.Goals as goal
 
-pub loop-i-init : goal.loop-i-init
-loop-i-init c = (search rules, refl)
+pub returns-then-is_empty : goal.returns-then-is_empty
+returns-then-is_empty c = as_fed _ _ (fed_none 0 c.args.line c.args.content.now c.args.bytes.now (search rules))
 
-pub overflow_add-i : goal.overflow_add-i
-overflow_add-i c =
-    omega (arith, run_most c.loop-i.at c.loop-i.content c.args.bytes.now c.loop-i.i c.loop-i-test.true _ _ c.take_row-row.ensures)
+pub loop-byte-init : goal.loop-byte-init
+loop-byte-init c =
+    let none : length c.args.bytes.now - length c.args.bytes.now ≡ 0 = omega arith in
+    record {
+      within = omega arith;
+      same =
+          rw none
+          (as_written c.args.line c.from-at.result 0 c.args.content.now c.args.bytes.now (search rules) c.from-at.ensures);
+    }
 
-pub returns-then-i-bytes : goal.returns-then-i-bytes
-returns-then-i-bytes c = rw c.state_of.ensures (as_fed _ _ (c.loop-i.invariant.1
-    ∙ run_on c.loop-i.at c.loop-i.content c.args.bytes.now c.loop-i.i c.loop-i-test.true _ _
-    c.take_row-row.ensures
-    ∙ feed_over _ _ c.args.bytes.now _ (omega arith)))
+pub returns-in_default : goal.returns-in_default
+returns-in_default c =
+    let none = none_of c.loop-byte.rest.now c.take_row-row.result.count c.take_row-row.ensures.most c.in_default.ensures.cases in
+    let all : length c.args.bytes.now - length c.loop-byte.rest.now + c.take_row-row.result.count ≡ length c.args.bytes.now =
+    omega arith in
+    as_fed _ _ (c.loop-byte.invariant.same ∙ c.take_row-row.ensures.goes _ ∙ rw (all, c.from.ensures) (fed_none _ _ _ _ none.0))
 
-pub bounds-bytes-i : goal.bounds-bytes-i
-bounds-bytes-i c =
-    omega (arith, run_most c.loop-i.at c.loop-i.content c.args.bytes.now c.loop-i.i c.loop-i-test.true _ _ c.take_row-row.ensures)
+pub loop-byte-preserved : goal.loop-byte-preserved
+loop-byte-preserved c =
+    let cut = cut_of c.loop-byte.rest.now c.take_row-row.result.count c.in-Some.field-0-0.now c.in-Some.behind.now
+    c.take_row-row.ensures.most c.in-Some.ensures.cases.0 in
+    let taken : length c.args.bytes.now - length c.loop-byte.rest.now + c.take_row-row.result.count + 1
+    ≡ length c.args.bytes.now - length c.in-Some.behind.now = omega arith in
+    record {
+      within = omega arith;
+      same =
+          c.loop-byte.invariant.same
+          ∙ c.take_row-row.ensures.goes _
+          ∙ rw (cut.0, ← taken)
+          (feed_on c.take_row-row.result.line _ c.in-Some.field-0-0.now c.in-Some.behind.now _ _ _ c.step-reaction.ensures c.in-Nothing.is);
+    }
 
-pub overflow_add-i-in-loop-i : goal.overflow_add-i-in-loop-i
-overflow_add-i-in-loop-i c =
-    omega (arith, run_most c.loop-i.at c.loop-i.content c.args.bytes.now c.loop-i.i c.loop-i-test.true _ _ c.take_row-row.ensures)
-
-pub loop-i-smaller : goal.loop-i-smaller
-loop-i-smaller c =
-    omega (arith, run_most c.loop-i.at c.loop-i.content c.args.bytes.now c.loop-i.i c.loop-i-test.true _ _ c.take_row-row.ensures)
-
-pub loop-i-preserved : goal.loop-i-preserved
-loop-i-preserved c =
-    let most : c.loop-i.i + c.take_row-row.result.count ≤ length c.args.bytes.now =
-    run_most c.loop-i.at c.loop-i.content c.args.bytes.now c.loop-i.i c.loop-i-test.true _ _ c.take_row-row.ensures in (
-      omega arith,
-      c.loop-i.invariant.1
-          ∙ run_on c.loop-i.at c.loop-i.content c.args.bytes.now c.loop-i.i c.loop-i-test.true _ _
-          c.take_row-row.ensures
-          ∙ feed_on _ _ c.args.bytes.now _ (omega arith) c.step-stepped.result _
-          (stepped_as c.loop-i.at.mode c.loop-i.at.frame c.take_row-row.result.phase c.take_row-row.result.held _ _
-          c.take_row-row.ensures.held_most c.after-frame.ensures c.step-stepped.ensures) c.in-Nothing.is,
-    )
-
-pub returns-in-Accepted : goal.returns-in-Accepted
-returns-in-Accepted c =
-    let most : c.loop-i.i + c.take_row-row.result.count ≤ length c.args.bytes.now =
-    run_most c.loop-i.at c.loop-i.content c.args.bytes.now c.loop-i.i c.loop-i-test.true _ _ c.take_row-row.ensures in
-    as_fed _ _ (c.loop-i.invariant.1
-    ∙ run_on c.loop-i.at c.loop-i.content c.args.bytes.now c.loop-i.i c.loop-i-test.true _ _
-    c.take_row-row.ensures
-    ∙ feed_accepted _ _ c.args.bytes.now _ (omega arith) c.step-stepped.result _
-    (stepped_as c.loop-i.at.mode c.loop-i.at.frame c.take_row-row.result.phase c.take_row-row.result.held _ _
-    c.take_row-row.ensures.held_most c.after-frame.ensures c.step-stepped.ensures) _ c.in-Accepted.is)
-
-pub returns-in-Told : goal.returns-in-Told
-returns-in-Told c =
-    let most : c.loop-i.i + c.take_row-row.result.count ≤ length c.args.bytes.now =
-    run_most c.loop-i.at c.loop-i.content c.args.bytes.now c.loop-i.i c.loop-i-test.true _ _ c.take_row-row.ensures in
-    as_fed _ _ (c.loop-i.invariant.1
-    ∙ run_on c.loop-i.at c.loop-i.content c.args.bytes.now c.loop-i.i c.loop-i-test.true _ _
-    c.take_row-row.ensures
-    ∙ feed_told _ _ c.args.bytes.now _ (omega arith) c.step-stepped.result _
-    (stepped_as c.loop-i.at.mode c.loop-i.at.frame c.take_row-row.result.phase c.take_row-row.result.held _ _
-    c.take_row-row.ensures.held_most c.after-frame.ensures c.step-stepped.ensures) _ c.in-Told.is)
-
-pub returns : goal.returns
-returns c =
-    as_fed _ _ (c.loop-i.invariant.1 ∙ feed_over c.loop-i.at c.loop-i.content c.args.bytes.now c.loop-i.i (omega arith))
+pub returns-in_default-heard : goal.returns-in_default-heard
+returns-in_default-heard c =
+    let cut = cut_of c.loop-byte.rest.now c.take_row-row.result.count c.in-Some.field-0-0.now c.in-Some.behind.now
+    c.take_row-row.ensures.most c.in-Some.ensures.cases.0 in
+    let taken : length c.args.bytes.now - length c.loop-byte.rest.now + c.take_row-row.result.count + 1
+    ≡ length c.args.bytes.now - length c.in-Some.behind.now = omega arith in
+    as_fed _ _ (c.loop-byte.invariant.same
+    ∙ c.take_row-row.ensures.goes _
+    ∙ rw (cut.0, ← taken, c.from-in_default-heard.ensures)
+    (feed_heard c.take_row-row.result.line _ c.in-Some.field-0-0.now c.in-Some.behind.now _ _ _ c.step-reaction.ensures c.in_default-heard.not-Nothing))

@@ -1,12 +1,14 @@
 -- What is left of the bytes decides.
-use Prim.Native.Nat.{◌-◌, ◌≤◌}
+use Rattle.std.proofs.Common.{◌≡◌, ◌-◌, ◌≤◌, length}
+use Rattle.line.specs.State.{written}
 use Rattle.line.specs.Steps.{fed}
-use lib.ListN.{drop, length}
-use mathlib.Core.Path.{◌≡◌}
 use Rattle.line.proofs.feed.Given as goal
 
-abbrev pub invariant-loop-i : goal.invariant-loop-i
-invariant-loop-i l = (l.i ≤ length l.bytes) × (fed 0 l.initial.at l.initial.content l.bytes ≡ fed l.i l.at l.content (drop l.i l.bytes))
+abbrev pub invariant-loop-byte : goal.invariant-loop-byte
+invariant-loop-byte l = record {
+  within : length l.rest ≤ length l.bytes;
+  same : fed 0 l.fn.line l.initial.content l.bytes ≡ fed (length l.bytes - length l.rest) (written l.at) l.content l.rest;
+}
 
-abbrev pub decreases-loop-i : goal.decreases-loop-i
-decreases-loop-i l = length l.bytes - l.i
+abbrev pub decreases-loop-byte : goal.decreases-loop-byte
+decreases-loop-byte l = length l.rest

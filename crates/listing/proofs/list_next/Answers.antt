@@ -1,14 +1,10 @@
--- The line of what was heard, laid into the text.
+-- The line of what was heard.
+use Rattle.std.proofs.Common.{rules}
 use Rattle.listing.proofs.Pieces.{taken_inside, taken_lists}
 use Rattle.listing.proofs.list_next.Goals as goal
 
-pub put_line-length-requires : goal.put_line-length-requires
-put_line-length-requires c = (
-  taken_inside c.args.line c.args.content.now c.args.bytes.now c.requires.0 _ _
-      c.feed-taken.ensures,
-  c.requires.1,
-)
+pub line_heard-requires : goal.line_heard-requires
+line_heard-requires c = taken_inside c.args.ear.now c.args.bytes.now (search rules) _ _ c.feed-taken.ensures
 
 pub returns : goal.returns
-returns c = taken_lists c.args.line c.args.content.now c.args.bytes.now c.requires.0 _ _
-    c.feed-taken.ensures c.args.text.now _ _ c.put_line-length.ensures
+returns c = taken_lists c.args.ear.now c.args.bytes.now (search rules) _ _ c.feed-taken.ensures _ c.line_heard.ensures

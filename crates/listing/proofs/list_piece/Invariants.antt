@@ -1,14 +1,14 @@
--- The line is where the bytes that were taken lead.
-use Prim.Native.Nat.{◌-◌, ◌≤◌}
+-- From where the line is, what is left of the piece leads where all of it leads from the start.
+use Rattle.std.proofs.Common.{◌≡◌, length}
 use Rattle.line.specs.Lines.{after}
-use Rattle.line.specs.State.{line_of}
-use lib.ListN.{length, take}
-use mathlib.Core.Path.{◌≡◌}
+use Rattle.listing.specs.Parts.{heard_by}
 use Rattle.listing.proofs.list_piece.Given as goal
 
-abbrev pub invariant-loop-i : goal.invariant-loop-i
-invariant-loop-i l = (l.i ≤ length l.bytes) × (length l.text ≡ 134) × (length l.content ≡ 128) × (l.at.mode ≡ l.initial.at.mode)
-    × (line_of l.at l.content ≡ after l.initial.at.mode (line_of l.initial.at l.initial.content) (take l.i l.bytes))
+abbrev pub invariant-loop-rest : goal.invariant-loop-rest
+invariant-loop-rest l = record {
+  same_mode : l.ear.line.mode ≡ l.initial.ear.line.mode;
+  leads : after l.ear.line.mode (heard_by l.ear) l.rest ≡ after l.initial.ear.line.mode (heard_by l.initial.ear) l.piece;
+}
 
-abbrev pub decreases-loop-i : goal.decreases-loop-i
-decreases-loop-i l = length l.bytes - l.i
+abbrev pub decreases-loop-rest : goal.decreases-loop-rest
+decreases-loop-rest l = length l.rest

@@ -1,5 +1,5 @@
 -- What any list of calls does to a line of the code's station, and what is seen of it, is what the line by itself does.
-use Rattle.std.specs.Prelude.{◌≡◌, refl, Bool, true, false, List, [], ◌∷◌, ◌++◌, map, ℕ, zero, suc, ◌≤◌, ◌<◌, T, eqb, ltb, leb, length, get_or, set, replicate}
+use Rattle.std.specs.Prelude.{◌≡◌, refl, Bool, true, false, List, [], ◌∷◌, ◌++◌, map, ℕ, zero, suc, ◌≤◌, ◌<◌, T, eqb, ltb, leb, length, get_or, set, replicate, Option, Some, None}
 use Rattle.std.proofs.Common.{sym, ap, ◌∙◌, arith, length-set, get_or-set_same, get_or-set_other, lt-ltb, le-ltb, le-leb, ne_eqb, eqb-true}
 use Rattle.std.proofs.lemmas.List.{length-map, get_or-replicate, set-get_or}
 use Rattle.std.proofs.Math.Facts.{yes_and}
@@ -7,9 +7,8 @@ use Rattle.std.proofs.lemmas.Bool.{lt-leb, eqb-false}
 use Rattle.characters.specs.Answers.{Answer, refused, given, need, by_need, every, pick}
 use Rattle.groups.specs.Modes.{is_mode}
 use Rattle.groups.proofs.Laws.Tests.{split}
+use Rattle.line.specs.declared.LineState.{LineState}
 use Rattle.line.specs.State.{opening_of}
-use Rattle.line.specs.declared.Opening.{Opening}
-use Rattle.line.specs.declared.Opening.TheVariants as line
 use Rattle.station.specs.Numbers.{number_of}
 use Rattle.station.specs.Lines.{filling, turning}
 use Rattle.station.specs.Stations.{
@@ -190,9 +189,9 @@ delivery_done j s bytes m =
     call_done j s (delivery_of bytes) _ (filling (line_at s j) bytes) m (fill_view (line_at s j) bytes)
 
 -- an opening is the opening of the line, put in its place
-opening_filled : (s : Station) (j : ℕ) (o : Opening) → filled_at s j (opened_by (line_at s j) o) ≡ opening_by s j o
-opening_filled s j (line.Opened state) = refl
-opening_filled s j line.ModeUnknown = refl
+opening_filled : (s : Station) (j : ℕ) (o : Option LineState) → filled_at s j (opened_by (line_at s j) o) ≡ opening_by s j o
+opening_filled s j (Some state) = refl
+opening_filled s j None = refl
 
 -- an opening
 opening_done : (j : ℕ) (s : Station) (mode : ℕ) → Made s

@@ -3,7 +3,7 @@ use Rattle.std.specs.Prelude.{◌≡◌, refl, List, [], ◌∷◌, ℕ, zero, s
 use Rattle.std.proofs.Common.{ap, arith}
 use Rattle.station.specs.Stations.{zero_line}
 use Rattle.station.specs.Records.{StationLine}
-use Rattle.station.specs.Memory.{Memory, line_from, lines_from, Sized}
+use Rattle.station.specs.Memory.{Memory, line_from, lines_from}
 
 pub line_at_lem : (ms ps cs bs : List (List ℕ)) (i : ℕ) → i < length ms → i < length ps → i < length cs → i < length bs
     → get_or (lines_from ms ps cs bs) i (zero_line [] [])
@@ -31,12 +31,19 @@ line_set (x ∷ ms) (y ∷ ps) (z ∷ cs) (w ∷ bs) zero m p c b = refl
 line_set (x ∷ ms) (y ∷ ps) (z ∷ cs) (w ∷ bs) (suc i) m p c b =
     ap (λ (ls : List StationLine). line_from x y z w ∷ ls) (line_set ms ps cs bs i m p c b)
 
+-- each of the four arrays has eight rows
+pub record EightRows (m : Memory) : Type 0 where
+  pub marks : length m.marks ≡ 8
+  pub places : length m.places ≡ 8
+  pub contents : length m.contents ≡ 8
+  pub inboxes : length m.inboxes ≡ 8
+
 -- each of eight lines has its rows
-pub row_inside : (m : Memory) → Sized m → (i : ℕ) → i < 8
+pub row_inside : (m : Memory) → EightRows m → (i : ℕ) → i < 8
     → (i < length m.marks) × (i < length m.places) × (i < length m.contents) × (i < length m.inboxes)
 row_inside m z i h = (
-  omega (arith, z.marks.many, h),
-  omega (arith, z.places.many, h),
-  omega (arith, z.contents.many, h),
-  omega (arith, z.inboxes.many, h),
+  omega (arith, z.marks, h),
+  omega (arith, z.places, h),
+  omega (arith, z.contents, h),
+  omega (arith, z.inboxes, h),
 )

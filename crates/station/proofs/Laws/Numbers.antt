@@ -1,5 +1,5 @@
 -- The numbers that calls return, and what a refused call leaves.
-use Rattle.std.specs.Prelude.{◌≡◌, refl, ◌≢◌, List, [], ◌∷◌, ◌++◌, ℕ, ◌<◌, T, ltb, length}
+use Rattle.std.specs.Prelude.{◌≡◌, refl, ◌≢◌, List, [], ◌∷◌, ◌++◌, ℕ, ◌<◌, T, ltb, length, Result, Option, Some, None}
 use Rattle.std.proofs.Common.{ap, ◌∙◌, le-ltb, le-leb, eq-eqb}
 use Rattle.std.proofs.Math.Seq.{drop-append_seam}
 use Rattle.std.proofs.lemmas.Bool.{lt-leb}
@@ -7,9 +7,8 @@ use Rattle.characters.specs.Answers.{Answer, refused, given, need, by_need, pick
 use Rattle.groups.specs.Modes.{is_mode}
 use Rattle.groups.proofs.Laws.Tests.{split}
 use Rattle.groups.proofs.Laws.Unknown.{known_below}
+use Rattle.line.specs.declared.LineState.{LineState}
 use Rattle.line.specs.State.{opening_of}
-use Rattle.line.specs.declared.Opening.{Opening}
-use Rattle.line.specs.declared.Opening.TheVariants as line
 use Rattle.station.specs.Numbers.{number_of}
 use Rattle.station.specs.Lines.{is_open, filling}
 use Rattle.station.specs.Stations.{
@@ -21,7 +20,7 @@ use Rattle.station.specs.Stations.{
   filled_at,
   delivering,
 }
-use Rattle.station.specs.Rounds.{turns, round_by}
+use Rattle.station.specs.Rounds.{turns, round_by, counts_of}
 use Rattle.station.specs.History.{
   Call,
   opens,
@@ -45,18 +44,17 @@ use Rattle.station.proofs.Laws.Accounts.{balanced}
 use Rattle.station.specs.Records.{StationLine, Station, Turned}
 use Rattle.station.specs.declared.Refusal.{Refusal}
 use Rattle.station.specs.declared.Refusal.TheVariants.{NoRoom, LineUnknown, LineClosed, SheetShort}
-use Rattle.station.specs.declared.Reply.{Reply}
 
 -- ---- Every number is one of the call's kind
 
 -- the number of a reply is one of those of the call
-abbrev Among : Call → Reply → Type 0
+abbrev Among : {A : Type 0} → Call → Result A Refusal → Type 0
 Among c reply = T (is_among (number_of reply) (numbers_of c))
 
 -- the number of an opening, whatever the line makes of the mode
-opening_among : (s : Station) (i mode : ℕ) (o : Opening) → Among (opens i mode) (called s (opening_by s i o)).reply
-opening_among s i mode (line.Opened state) = tt
-opening_among s i mode line.ModeUnknown = tt
+opening_among : (s : Station) (i mode : ℕ) (o : Option LineState) → Among (opens i mode) (called s (opening_by s i o)).reply
+opening_among s i mode (Some state) = tt
+opening_among s i mode None = tt
 
 -- the number of a delivery, whatever comes of filling the line
 filling_among : (s : Station) (i : ℕ) (l : StationLine) (bytes : List ℕ)
@@ -76,7 +74,7 @@ numbers_definite s (delivers i bytes) =
     by_need (λ a. Among (delivers i bytes) (called s a).reply) (ltb i 8) LineUnknown _ (λ t. tt) λ t.
     filling_among s i (line_at s i) bytes
 numbers_definite s (serves sheet) =
-    by_need (λ a. Among (serves sheet) (round_by s sheet a).result.reply) _ SheetShort _ (λ t. tt) λ t. tt
+    by_need (λ a. Among (serves sheet) (round_by s sheet a).result.told) _ SheetShort _ (λ t. tt) λ t. tt
 
 -- ---- And it is the one that is due
 
@@ -123,10 +121,10 @@ refused_keeps s (refused refusal) h = refl
 
 -- so does a refused round, which leaves the lent bytes as they were and has zero counts
 refused_round : (s : Station) (sheet : List ℕ) (a : Answer Refusal (List Turned))
-    → number_of (round_by s sheet a).result.reply ≢ 0
+    → number_of (round_by s sheet a).result.told ≢ 0
     → ((round_by s sheet a).result.station ≡ s)
     × ((round_by s sheet a).sheet ≡ sheet)
-    × ((round_by s sheet a).result.counts ≡ no_counts (serves sheet))
+    × (counts_of (round_by s sheet a).result.told ≡ no_counts (serves sheet))
 refused_round s sheet (given ts) h = absurd (h refl)
 refused_round s sheet (refused refusal) h = (refl, refl, refl)
 

@@ -9,7 +9,7 @@ use Rattle.line.proofs.Laws.Openings.{opening_unknown}
 use Rattle.station.specs.Numbers.{number_of}
 use Rattle.station.specs.Stations.{called, opening, delivering}
 use Rattle.station.specs.Sheets.{smallest_sheet}
-use Rattle.station.specs.Rounds.{turns, round}
+use Rattle.station.specs.Rounds.{turns, round, counts_of}
 use Rattle.station.specs.History.{opens, delivers, serves, next, gets}
 use Rattle.station.specs.Records.{Station}
 use Rattle.station.specs.declared.Refusal.TheVariants.{LineUnknown, SheetShort, ModeUnknown}
@@ -67,8 +67,8 @@ module _ (s : Station) (line : ℕ) where
 
 pub serves_round : (s : Station) (sheet : List ℕ)
     → (next s (serves sheet) ≡ (round s sheet).result.station)
-    × ((gets s (serves sheet)).number ≡ number_of (round s sheet).result.reply)
+    × ((gets s (serves sheet)).number ≡ number_of (round s sheet).result.told)
     × ((gets s (serves sheet)).lent ≡ (round s sheet).sheet)
-    × ((gets s (serves sheet)).counts ≡ (round s sheet).result.counts)
+    × ((gets s (serves sheet)).counts ≡ counts_of (round s sheet).result.told)
 unfolding next gets
 serves_round s sheet = (refl, refl, refl, refl)

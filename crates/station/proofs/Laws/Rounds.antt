@@ -12,7 +12,7 @@ use Rattle.line.proofs.Laws.FrameNumbers.{number_is}
 use Rattle.station.specs.Lines.{turning}
 use Rattle.station.specs.Stations.{zero_line, all_closed, line_at}
 use Rattle.station.specs.Sheets.{Told, idle, sheet_of}
-use Rattle.station.specs.Rounds.{turns, tells, told_of, after_turns, round}
+use Rattle.station.specs.Rounds.{turns, tells, told_of, after_turns, round, counts_of}
 use Rattle.station.specs.Reading.{read_turn, turns_read}
 use Rattle.station.specs.History.{Call, serves, gets, run, took, seen_of, entered, account_of, bytes_taken}
 use Rattle.station.specs.Due.{turn_due}
@@ -38,7 +38,7 @@ round_sheet : (s : Station) (sheet : List ℕ) → Made s → 1096 ≤ length sh
     let told = sheet_of (told_of s) in
     (length told ≤ 1096)
     × (left ≡ told ++ drop (length told) sheet)
-    × (take 8 left ≡ (round s sheet).result.counts)
+    × (take 8 left ≡ counts_of (round s sheet).result.told)
     × ((i : ℕ) → i < 8 → read_turn left i ≡ get_or (told_of s) i idle)
 round_sheet s sheet m t =
     let rest = drop (length (sheet_of (told_of s))) sheet in

@@ -1,4 +1,5 @@
 -- What an opening, a delivery and a turn do to the code's record of a line is what they do to the line by itself.
+use Rattle.std.specs.Prelude as std
 use Rattle.std.specs.Prelude.{◌≡◌, refl, Bool, true, false, List, [], ◌∷◌, ◌++◌, map, ℕ, zero, suc, ◌+◌, ◌-◌, ◌%◌, ◌≤◌, ◌<◌, T, ltb, leb, length, take, drop}
 use Rattle.std.proofs.Common.{sym, ap, ◌∙◌, arith, ltb→lt, lt→ltb, nltb→le, leb→le, le→leb, length-append, length-take, length-drop, drop_of_length-le, take-take, drop-drop}
 use Rattle.std.proofs.Math.Option.{Option, none, some}
@@ -8,6 +9,7 @@ use Rattle.characters.specs.Answers.{Answer, refused, given, by_need, is_true, i
 use Rattle.groups.specs.Modes.{is_mode}
 use Rattle.line.specs.Lines.{LineAnswer, State, listed}
 use Rattle.line.specs.FrameNumbers.{begun, frame_after}
+use Rattle.line.specs.declared.LineState.{LineState}
 use Rattle.line.specs.State.{line_of, frame_of, state_of, opening_of}
 use Rattle.line.specs.Steps.{heard_answer, fed}
 use Rattle.line.specs.Views.{FieldsInside}
@@ -18,8 +20,6 @@ use Rattle.line.proofs.Laws.Openings.{opening_known, opening_unknown}
 use Rattle.line.proofs.Laws.FrameNumbers.{after_remainder, until_number}
 use Rattle.line.proofs.Laws.Heard.{heard_nothing, heard_told, heard_accepted}
 use Rattle.line.proofs.Laws.GroupsByBytes.{notice_number}
-use Rattle.line.specs.declared.Opening.{Opening}
-use Rattle.line.specs.declared.Opening.TheVariants as line
 use Rattle.line.specs.declared.Heard.{Heard}
 use Rattle.line.specs.declared.Heard.TheVariants.{Nothing, Accepted, Told}
 use Rattle.line.specs.declared.rules.Phase.TheVariants.{Outside}
@@ -261,9 +261,9 @@ unfolding stands_for waiting pick
 opened_stands l mode = rw (opened_view mode 0 l.content)
 
 -- the opening of a line, by what the line itself makes of the mode
-abbrev pub opened_by : StationLine → Opening → Answer Refusal StationLine
-opened_by l (line.Opened state) = given (opened_as l state)
-opened_by l line.ModeUnknown = refused ModeUnknown
+abbrev pub opened_by : StationLine → std.Option LineState → Answer Refusal StationLine
+opened_by l (std.Some state) = given (opened_as l state)
+opened_by l std.None = refused ModeUnknown
 
 -- an opening of any line
 pub open_view : (l : StationLine) (mode : ℕ) → Long l

@@ -1,9 +1,9 @@
--- `count_piece` is safe and ends: the bytes that are not yet taken become fewer.
-use Rattle.std.proofs.Common.{length, ◌-◌, ◌≤◌}
+-- `count_piece` is safe and ends: what is left of the piece becomes less. The content keeps its length.
+use Rattle.std.proofs.Common.{◌≡◌, length}
 use Rattle.tally.proofs.count_piece.Given as goal
 
-abbrev pub invariant-loop-i : goal.invariant-loop-i
-invariant-loop-i l = l.i ≤ length l.bytes
+abbrev pub invariant-loop-rest : goal.invariant-loop-rest
+invariant-loop-rest l = length l.content ≡ 128
 
-abbrev pub decreases-loop-i : goal.decreases-loop-i
-decreases-loop-i l = length l.bytes - l.i
+abbrev pub decreases-loop-rest : goal.decreases-loop-rest
+decreases-loop-rest l = length l.rest

@@ -1,24 +1,22 @@
 -- The rule takes the fields, or says why not.
-use Rattle.groups.proofs.Laying.{write_wrong, wrote_as}
+use Rattle.std.specs.Prelude.{length}
+use Rattle.std.proofs.Common.{sym}
+use Rattle.std.proofs.lemmas.Result.{err_from_is_err_and}
+use Rattle.groups.proofs.Laying.{write_wrong, wrote_nothing}
 use Rattle.groups.proofs.Views.{fit_right, fit_wrong}
 use Rattle.groups.specs.Groups.{group_of}
 use Rattle.groups.specs.Stored.{rule_of}
-use lib.ListN.{length}
-use mathlib.Core.Path.{◌∙◌, sym}
 use Rattle.groups.proofs.writing.write_by.Goals as goal
 
 pub write_right-requires : goal.write_right-requires
 write_right-requires c = (
   c.requires,
-  fit_right (rule_of c.args.rule) c.args.stamp.now c.args.«data».now _ (sym c.fit-fitness.ensures ∙
-      c.in-Accepted.is),
+  fit_right (rule_of c.args.rule) c.args.group.stamp.now c.args.group.«data».now _ (sym c.in_ok-fit.ensures),
 )
 
-pub returns-in-Refused : goal.returns-in-Refused
-returns-in-Refused c =
-    wrote_as c.args.buffer.now _ _ (write_wrong c.args.mode (group_of c.args.label.now c.args.stamp.now c.args.«data».now)
-    (length c.args.buffer.now) (rule_of c.args.rule) _ (λ a. fit_wrong (rule_of c.args.rule) c.args.stamp.now c.args.«data».now _ a _ (sym
-    c.fit-fitness.ensures ∙ c.in-Refused.is))) c.stop.ensures
-
-pub returns-in-Accepted : goal.returns-in-Accepted
-returns-in-Accepted c = c.write_right.ensures
+pub returns-in_err-fit : goal.returns-in_err-fit
+returns-in_err-fit c =
+    let p = err_from_is_err_and c.from_residual.result c.from_residual.ensures.1 in
+    let g = group_of c.args.group.label.now c.args.group.stamp.now c.args.group.«data».now in
+    rw (p.1, p.2) (wrote_nothing c.args.buffer.now _ (write_wrong c.args.mode g (length c.args.buffer.now) (rule_of c.args.rule) _
+    (λ a. fit_wrong (rule_of c.args.rule) c.args.group.stamp.now c.args.group.«data».now _ a _ (sym c.in_err-fit.ensures))))

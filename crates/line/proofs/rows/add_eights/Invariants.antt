@@ -1,10 +1,10 @@
 -- Eight by eight.
-use Prim.Native.Nat.{◌-◌, ◌≤◌}
-use Rattle.line.specs.Runs.{AddsOn}
+use Rattle.std.proofs.Common.{◌-◌, length}
+use Rattle.line.specs.Runs.{Lays}
 use Rattle.line.proofs.rows.add_eights.Given as goal
 
-abbrev pub invariant-loop-i : goal.invariant-loop-i
-invariant-loop-i l = (l.i ≤ l.end) × AddsOn l.held l.bytes 0 l.initial.content l.i l.content
+abbrev pub invariant-loop-eight : goal.invariant-loop-eight
+invariant-loop-eight l = Lays l.initial.room l.bytes l.count l.room
 
-abbrev pub decreases-loop-i : goal.decreases-loop-i
-decreases-loop-i l = l.end - l.i
+abbrev pub decreases-loop-eight : goal.decreases-loop-eight
+decreases-loop-eight l = length l.bytes - l.count
