@@ -9,13 +9,14 @@
 
 ghost use Rattle.std.specs.Prelude.{◌≡◌, length, min};
 ghost use Rattle.groups.specs.Groups.{group_of};
-ghost use Rattle.groups.specs.Place.{judgement};
+ghost use Rattle.groups.specs.Place.{judgement, place_told};
 ghost use Rattle.groups.specs.Writing.{writing};
 ghost use Rattle.station.specs.History.{opens, delivers};
 ghost use Rattle.station.specs.Memory.{behind};
 ghost use Rattle.espandim.specs.Calls.{Calls, Serves};
-ghost use Rattle.espandim.specs.OneGroup.{Judges, Writes};
+ghost use Rattle.espandim.specs.OneGroup.{stretches_of, Judges, Writes};
 
+use groups::{Fault, Fields};
 use station::{Contents, Inboxes, Marks, Places};
 
 // The byte of a number, or 255, which is neither a line nor a mode either, of one that no byte holds.
@@ -85,6 +86,26 @@ pub extern "C" fn espandim_rows_round(
     u32::from(station::number_of(told))
 }
 
+// The stretches of a judgement, three empty ones of a refused content, and its place.
+fn shown(judgement: Result<Fields, Fault>) -> ([usize; 6], usize)
+    ensures { (result.0 ≡ stretches_of judgement) × (result.1 ≡ place_told judgement) }
+{
+    match judgement {
+        Ok(fields) => {
+            let stretches = [
+                fields.label.start,
+                fields.label.length,
+                fields.stamp.start,
+                fields.stamp.length,
+                fields.data.start,
+                fields.data.length,
+            ];
+            (stretches, 0)
+        }
+        Err(fault) => ([0; 6], fault.place),
+    }
+}
+
 // Judges the content of one group, given alone; shows where its label, stamp and data start, and their lengths; and tells the
 // place where a refused stamp or refused data went wrong.
 #[unsafe(no_mangle)]
@@ -97,25 +118,8 @@ pub extern "C" fn espandim_judge(
     ensures { Judges (judgement mode content.now) result stretches.new place.new }
 {
     let judgement = groups::judge(byte_of(mode), content);
-    let number = groups::number_of(judgement);
-    match judgement {
-        Ok(fields) => {
-            *stretches = [
-                fields.label.start,
-                fields.label.length,
-                fields.stamp.start,
-                fields.stamp.length,
-                fields.data.start,
-                fields.data.length,
-            ];
-            *place = 0;
-        }
-        Err(fault) => {
-            *stretches = [0; 6];
-            *place = fault.place;
-        }
-    }
-    u32::from(number)
+    (*stretches, *place) = shown(judgement);
+    u32::from(groups::number_of(judgement))
 }
 
 // Writes LF, the content of the group with these fields, and CR, at the start of the buffer, and tells how many bytes.

@@ -1,5 +1,5 @@
 -- The ways through `turn`, over plain variables.
-use mathlib.Core.Path.{◌≡◌, sym, ap, ◌∙◌}
+use mathlib.Core.Path.{◌≡◌, ap}
 use mathlib.Core.List.{List}
 use Prim.Native.Nat.{ℕ, ◌+◌, ◌-◌, ◌≤◌}
 use native.Mathlib.Omega.{arith}
@@ -44,24 +44,16 @@ module _ (l : StationLine) (long : Long l) where
         inbox_long = long.inbox;
       }
 
-  module _ (oldest : List ℕ) (w : oldest ≡ waiting l) (n : ℕ) (h : n ≡ min (length oldest) most_in_turn) (t : Taken)
-      (x : t ≡ (fed 0 l.state l.content (take n oldest)).result) where
-    -- the bytes of a turn are the oldest 64 of those that wait
-    turn_bytes : take n oldest ≡ take most_in_turn (waiting l)
-    turn_bytes =
-        split most_in_turn (length oldest) (λ k. rw (h, min-eq_right k, w)) (λ k.
-        let whole : take n oldest ≡ oldest = take_all n oldest (omega (arith, h, min-eq_left (le_of_lt k))) in
-        let all : take most_in_turn oldest ≡ oldest = take_all most_in_turn oldest (omega arith) in
-        whole ∙ sym all ∙ ap (take most_in_turn) w)
-
-    pub turn_open : (l.opened ≡ 0 → ⊥) → (content : List ℕ) → content ≡ (fed 0 l.state l.content (take n oldest)).content
+  module _ (waits : List ℕ) (w : waits ≡ waiting l) (t : Taken)
+      (x : t ≡ (fed 0 l.state l.content (take most_in_turn waits)).result) where
+    pub turn_open : (l.opened ≡ 0 → ⊥) → (content : List ℕ) → content ≡ (fed 0 l.state l.content (take most_in_turn waits)).content
         → (first : ℕ) → first ≡ min l.first 256
         → Turns l
         (record {
           opened = l.opened;
           state = t.line;
           first = first + t.count;
-          count = length oldest - t.count;
+          count = length waits - t.count;
           content = content;
           inbox = l.inbox;
         })
@@ -69,18 +61,25 @@ module _ (l : StationLine) (long : Long l) where
     unfolding turning pick
     turn_open o content g first k =
         let e = ne_eqb l.opened 0 o in
+        let bytes = ap (take most_in_turn) w in
         record {
-          line_is = rw (e, ← turn_bytes, g, x, k, oldest_is l, ← w);
-          told_is = rw (e, ← turn_bytes, x);
+          line_is = rw (e, ← bytes, g, x, k, oldest_is l, ← w);
+          told_is = rw (e, ← bytes, x);
           content_long = long.content;
           inbox_long = long.inbox;
         }
 
--- no more bytes are taken than are fed, or than there are
-pub took_few : (n : ℕ) (state : LineState) (content oldest : List ℕ) (t : Taken) → length content ≡ 128
-    → t ≡ (fed 0 state content (take n oldest)).result → (t.count ≤ n) × (t.count ≤ length oldest)
-took_few n state content oldest t long x =
-    let v = fed_view 0 state content (take n oldest) long in
-    let m = until_most state.mode (line_of state content) (take n oldest) in
-    let k = length-take n oldest in
+-- no more bytes are taken than 64, or than wait
+pub took_few : (state : LineState) (content waits : List ℕ) (t : Taken) → length content ≡ 128
+    → t ≡ (fed 0 state content (take most_in_turn waits)).result → (t.count ≤ most_in_turn) × (t.count ≤ length waits)
+took_few state content waits t long x =
+    let v = fed_view 0 state content (take most_in_turn waits) long in
+    let m = until_most state.mode (line_of state content) (take most_in_turn waits) in
+    let k = length-take most_in_turn waits in
     rw x (omega (arith, v.count_is), omega (arith, v.count_is))
+
+-- the bytes of a turn
+pub oldest_taken : (waits : List ℕ) → take (min (length waits) most_in_turn) waits ≡ take most_in_turn waits
+oldest_taken waits =
+    split most_in_turn (length waits) (λ k. rw (min-eq_right k)) (λ k.
+    rw (min-eq_left (le_of_lt k), take_all most_in_turn waits (omega arith), take_all (length waits) waits (omega arith)))

@@ -64,12 +64,7 @@ pub fn open(
     let Some(state) = line::open(mode) else {
         return Err(Refusal::ModeUnknown);
     };
-    let row = Row {
-        opened: 1,
-        state,
-        first: 0,
-        count: 0,
-    };
+    let row = Row::opening(state);
     let at = line as usize;
     marks[at] = row.marks();
     places[at] = row.places();

@@ -36,6 +36,18 @@ impl Row {
         }
     }
 
+    // Of a line that is opened: nothing waits.
+    pub(crate) fn opening(state: LineState) -> Row
+        ensures { result ≡ record { opened = 1; state = state; first = 0; count = 0 } }
+    {
+        Row {
+            opened: 1,
+            state,
+            first: 0,
+            count: 0,
+        }
+    }
+
     pub(crate) fn marks(self) -> [u8; 6]
         ensures { result ≡ self.opened ∷ self.state.mode ∷ self.state.phase ∷ self.state.flaw ∷ self.state.damaged ∷ self.state.overlong ∷ [] }
     {

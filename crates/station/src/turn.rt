@@ -1,5 +1,6 @@
 // One line's turn in a round.
-ghost use Rattle.std.specs.Prelude.{◌≡◌};
+ghost use Rattle.std.specs.Prelude.{◌≡◌, take};
+ghost use Rattle.station.specs.Lines.{most_in_turn};
 ghost use Rattle.station.specs.Memory.{rows_behind};
 ghost use Rattle.station.specs.Parts.{Turns};
 
@@ -13,6 +14,13 @@ pub struct Took {
     pub count: u8,
     pub heard: Heard,
     pub frame: u16,
+}
+
+// The bytes of a turn: the oldest of those that wait, at most 64.
+fn bytes_of_turn(waiting: &[u8]) -> &[u8]
+    ensures { result.now ≡ take most_in_turn waiting.now }
+{
+    &waiting[..waiting.len().min(64)]
 }
 
 // Takes the oldest bytes of a line, at most 64, up to one that gives an answer; a closed line has no turn.
@@ -29,14 +37,14 @@ pub(crate) fn turn(
     if row.opened == 0 {
         return None;
     }
-    let oldest = inbox::waiting(inbox, row.first, row.count);
-    let taken = line::feed(row.state, content, &oldest[..oldest.len().min(64)]);
+    let waiting = inbox::waiting(inbox, row.first, row.count);
+    let taken = line::feed(row.state, content, bytes_of_turn(waiting));
     let count = taken.count as u8;
     let then = Row {
         opened: row.opened,
         state: taken.line,
         first: row.first.min(256) + u16::from(count),
-        count: (oldest.len() - taken.count) as u16,
+        count: (waiting.len() - taken.count) as u16,
     };
     *marks = then.marks();
     *places = then.places();

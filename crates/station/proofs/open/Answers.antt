@@ -18,4 +18,4 @@ returns c =
     rows_opened c.args.marks.now c.args.places.now c.args.contents.now c.args.inboxes.now
     (record { marks = c.told-marks; places = c.told-places; contents = c.told-contents; inboxes = c.told-inboxes }) c.args.line
     c.args.mode _ c.open.ensures c.if-line-ge8.false _ c.in-Some.is _ _
-    (λ content inbox. rw (c.marks.ensures, c.places.ensures) refl)
+    (λ content inbox. rw (c.marks.ensures, c.places.ensures, c.opening-row.ensures) refl)

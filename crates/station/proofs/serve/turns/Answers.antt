@@ -33,7 +33,7 @@ loop-i-preserved-in_default c =
       served =
           rows_none _ c.loop-i.marks c.loop-i.places c.loop-i.contents _ c.loop-i.counts c.loop-i.offsets
           c.loop-i.pen.sheet.now c.loop-i.pen.at c.loop-i.i c.turn-told.new.marks c.turn-told.new.places c.turn-told.new.content
-          c.loop-i-test.true v.marks_long v.places_long v.contents_long c.told-inboxes (rw c.in_default.is at c.turn-told.ensures)
+          (omega (arith, c.loop-i-test.true)) v.marks_long v.places_long v.contents_long c.told-inboxes (rw c.in_default.is at c.turn-told.ensures)
           v.no_count v.no_offset v.served;
       marks_long = simp length-set v.marks_long;
       places_long = simp length-set v.places_long;
@@ -70,7 +70,7 @@ loop-i-preserved c =
           (rows_more _ c.loop-i.marks c.loop-i.places c.loop-i.contents _ c.loop-i.counts c.loop-i.offsets
           c.loop-i.pen.sheet.now c.loop-i.pen.at c.loop-i.i c.turn-told.new.marks c.turn-told.new.places c.turn-told.new.content
           _ _ c.put_entry-offset.result _ _
-          c.loop-i-test.true v.marks_long v.places_long v.contents_long c.told-inboxes c.turn-told.ensures c.in-Some.is
+          (omega (arith, c.loop-i-test.true)) v.marks_long v.places_long v.contents_long c.told-inboxes c.turn-told.ensures c.in-Some.is
           c.put_entry-offset.ensures.offset c.put_entry-offset.ensures.entry.0 v.served);
       marks_long = simp length-set v.marks_long;
       places_long = simp length-set v.places_long;
