@@ -14,8 +14,8 @@ mod writing;
 ghost use Rattle.std.specs.Prelude.{◌≡◌, length};
 ghost use Rattle.groups.specs.Modes.{is_mode};
 ghost use Rattle.groups.specs.Groups.{group_of};
-ghost use Rattle.groups.specs.Judging.{Part};
-ghost use Rattle.groups.specs.Place.{judgement};
+ghost use Rattle.groups.specs.Judging.{judging, shown, Part};
+ghost use Rattle.groups.specs.Place.{place_of};
 ghost use Rattle.groups.specs.Numbers.{number_of, number_of_refusal, number_of_writing};
 ghost use Rattle.groups.specs.Writing.{writing, Wrote};
 
@@ -82,7 +82,7 @@ pub fn is_mode(number: u8) -> bool
 
 // Judges the content of one group, given alone, in the mode of this number.
 pub fn judge(mode: u8, content: &[u8]) -> Result<Fields, Fault>
-    ensures { result ≡ judgement mode content.now }
+    ensures { result ≡ shown (judging mode content.now) (place_of mode content.now) }
 {
     reading::read(Mode::try_from(mode)?, content)
 }

@@ -5,6 +5,7 @@ pub mod Openings
 pub mod Turns
 pub mod Entries
 pub mod Serving
+pub mod Typed
 pub mod Rounding
 pub mod RowsServing
 pub mod Laws

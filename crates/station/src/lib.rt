@@ -12,6 +12,7 @@
 #![tactic(auto)]
 
 mod inbox;
+mod known;
 mod row;
 mod serve;
 mod sheet;
