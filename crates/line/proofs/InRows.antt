@@ -157,11 +157,6 @@ plain_text b e = go (leb SP (character_of b)) refl (and_both (is_sound b) _ e)
 
 -- ---- So many characters at the front of the bytes
 
-pub lays_none : (old bs : List ℕ) → Lays old bs 0 old
-lays_none old bs = record { most = omega arith; room = omega arith; texts = λ k h. absurd (omega arith); laid = refl }
-
--- ---- Bytes outside of groups
-
 -- as much room as before
 lays_long : (old bs g : List ℕ) (i : ℕ) → Lays old bs i g → length g ≡ length old
 lays_long old bs g i a =
@@ -263,6 +258,8 @@ cut_eight bs i eight h e l =
     let cut : eight ≡ take 8 (drop i bs) = e ∙ ap (take 8) (rest_is bs i) in
     let long = ap length cut in
     (omega (arith, length-take 8 (drop i bs), length-drop i bs), cut)
+
+-- ---- Bytes outside of groups
 
 -- STX has one wire byte, and no other byte is a sound STX
 pub stx_wire : (b stx : ℕ) → b < 256 → stx ≡ wire_byte_of STX → eqb b stx ≡ is STX b
@@ -412,9 +409,6 @@ runs_passed l r g a empty i =
       goes =
           λ n. rw (i.mode_is, i.frame_is, i.phase_is, i.held_is, empty l.mode l.frame l.held) (a.goes l.mode l.frame n g);
     }
-
-pub runs_none : (l : Line) (g bs : List ℕ) → Runs l g bs (record { line = l; count = 0 }) g
-runs_none l g bs = record { most = omega arith; goes = λ n. rw (add-zero n) }
 
 -- the characters of a group behind the bytes outside of it
 pub row_joined : (l : Line) (g bs : List ℕ) (a : Run) (f d o : Bool) (more : ℕ) (ys : List ℕ) (r : Line) → length g ≡ 128
