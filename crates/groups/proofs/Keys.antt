@@ -1,37 +1,22 @@
 -- Labels as numbers: how the code makes them, and that they tell one label from another.
-use mathlib.Core.Path.{◌≡◌, refl, sym, ap}
-use mathlib.Core.List.{List, [], ◌∷◌}
+use mathlib.Core.Path.{◌≡◌, refl, sym}
+use mathlib.Core.List.{List, [], ◌∷◌, reverse, reverse-cons}
 use Prim.Native.Nat.{ℕ, zero, suc, ◌+◌, ◌*◌, ◌-◌, ◌/◌, ◌^◌, ◌<◌, ◌≤◌}
 use native.Mathlib.Nat.{not-suc-le-zero, le_of_suc-le-suc, mul-le-mul_right, mul_assoc, suc-mul, pow-suc}
 use native.Mathlib.Omega.{arith}
-use lib.ListN.{length, get_or, take, drop, length-take, drop_of_length-le}
-use lib.Seq.{drop-cons, get_or-take}
+use lib.ListN.{length, get_or, take, length-take}
+use lib.Seq.{get_or-take}
+use Rattle.std.specs.List.{fold}
+use Rattle.std.proofs.lemmas.List.Sums.{fold_push}
 use Rattle.groups.specs.Packed.{packed, tail_of}
 use Rattle.groups.proofs.Laws.Tests.{split}
 use Rattle.groups.proofs.Laws.Packed.{Bytes, below}
-
--- what the last arm of a match on a number knows: it is none of those before
-abbrev pub NoneBelow : ℕ → ℕ → Type 0
-NoneBelow zero i = Unit
-NoneBelow (suc n) i = NoneBelow n i × (i ≡ n → ⊥)
-
-pub past : (n i : ℕ) → NoneBelow n i → n ≤ i
-past zero i h = omega arith
-past (suc n) i h = split i n (λ g. absurd (h.1 (antisym g (past n i h.0)))) (λ g. g)
-  where
-    antisym : i ≤ n → n ≤ i → i ≡ n
-    antisym a b = omega arith
 
 pub bytes_take : (n : ℕ) (l : List ℕ) → Bytes l → Bytes (take n l)
 bytes_take zero l b i = omega arith
 bytes_take (suc n) [] b i = omega arith
 bytes_take (suc n) (x ∷ l) b zero = b 0
 bytes_take (suc n) (x ∷ l) b (suc i) = bytes_take n l (λ j. b (suc j)) i
-
-pub bytes_drop : (n : ℕ) (l : List ℕ) → Bytes l → Bytes (drop n l)
-bytes_drop zero l b i = b i
-bytes_drop (suc n) [] b i = omega arith
-bytes_drop (suc n) (x ∷ l) b i = bytes_drop n l (λ j. b (suc j)) i
 
 past_end : (l : List ℕ) (i : ℕ) → length l ≤ i → get_or l i 0 ≡ 0
 past_end [] i h = refl
@@ -95,25 +80,16 @@ key_cut (x0 ∷ x1 ∷ x2 ∷ x3 ∷ x4 ∷ x5 ∷ []) h b n = omega arith
 key_cut (x0 ∷ x1 ∷ x2 ∷ x3 ∷ x4 ∷ x5 ∷ x6 ∷ []) h b n = omega arith
 key_cut (x0 ∷ x1 ∷ x2 ∷ x3 ∷ x4 ∷ x5 ∷ x6 ∷ x7 ∷ l) h b n = eight_cut x0 x1 x2 x3 x4 x5 x6 x7 l b n
 
--- a byte on top of those behind it
-pub byte_on_top : (l : List ℕ) (i n : ℕ) → Bytes l → 1 ≤ i → i ≤ n → n ≤ length l
-    → packed 8 (drop i (take n l)) / 256 + get_or l (i - 1) 0 * 72057594037927936 ≡ packed 8 (drop (i - 1) (take n l))
+-- each byte goes on top of those behind it, from the last one on
+pub folded_key : (l : List ℕ) → Bytes l
+    → fold (λ (key byte : ℕ). key / 256 + byte * 72057594037927936) 0 (reverse l) ≡ packed 8 l
 unfolding packed
-byte_on_top l zero n b h k s = absurd (not-suc-le-zero h)
-byte_on_top l (suc i) n b h k s =
-    let inside : i < length (take n l) = simp length-take (omega arith) in
-    let less = packed_less 7 (drop (suc i) (take n l)) (bytes_drop (suc i) (take n l) (bytes_take n l b)) in
-    let top : packed 8 (drop i (take n l)) ≡ get_or (take n l) i 0 * 256 ^ 7 + packed 7 (drop (suc i) (take n l)) =
-    ap (packed 8) (drop-cons (take n l) i 0 inside) in
-    let before : suc i - 1 ≡ i = omega arith in
-    rw before (omega (arith, less, top, get_or-take n l i 0 k))
-
-pub key_small : (l : List ℕ) → Bytes l → packed 8 l < 18446744073709551616
-key_small l b = below 8 l b
-
-pub none_behind_all : (n : ℕ) (l : List ℕ) → packed 8 (drop n (take n l)) ≡ 0
-unfolding packed
-none_behind_all n l = rw (drop_of_length-le (take n l) {i = n} (simp length-take (omega arith)))
+folded_key [] b = refl
+folded_key (x ∷ l) b =
+    let behind : Bytes l = λ i. b (suc i) in
+    let less = packed_less 7 l behind in
+    let on = fold_push (λ (key byte : ℕ). key / 256 + byte * 72057594037927936) 0 (reverse l) x in
+    rw (reverse-cons x l) (omega (arith, on, folded_key l behind, less))
 
 -- the length and the ninth byte
 pub tail_of_few : (n : ℕ) (l : List ℕ) → n ≤ length l → n < 9 → n * 256 ≡ tail_of (take n l)

@@ -3,6 +3,10 @@
 use mathlib.Core.Path.{◌≡◌, refl}
 use mathlib.Core.Bool.{Bool, true, false, ◌&&◌}
 use mathlib.Core.List.{List, [], ◌∷◌}
+use Rattle.std.specs.Prelude.{cond, ◌==◌}
+use Rattle.std.specs.Ordering.{is_lt, nat_cmp, ord_max}
+use Rattle.std.proofs.Common.{Less, Equal, Greater, ◌∙◌}
+use Rattle.std.proofs.Math.Dec.{ltb, ltb→lt, nltb→le}
 use Prim.Native.Nat.{ℕ, suc, ◌+◌, ◌-◌, ◌<◌, ◌≤◌, max}
 use native.Mathlib.Numerals.{add-one}
 use native.Mathlib.Omega.{arith}
@@ -10,7 +14,7 @@ use lib.Dec.{eqb, leb, not_T}
 use lib.ListN.{length, get_or, drop, drop_of_length-le, length-drop, replicate, length-replicate}
 use lib.Seq.{drop-cons, drop-drop}
 use borrow.Author.Tests.{eq-eqb, ne_eqb, le-leb, lt-leb}
-use Rattle.characters.specs.Answers.{every, pick, is_true, is_false}
+use Rattle.characters.specs.Answers.{every, pick, is_true, is_false, from_true}
 use Rattle.groups.specs.Kinds.{of_kind}
 use Rattle.groups.specs.Forms.{Form, picture_of, takes, last_of, has_length, fits, some_fits}
 use Rattle.groups.specs.Formats.{form_of, forms}
@@ -90,6 +94,18 @@ module _ (first count : ℕ) (d : List ℕ) (i best : ℕ) where
   pub furthest_over : count ≤ i → max best (furthest (forms (formats_from (first + i) (count - i))) d) ≡ best
   unfolding formats_from furthest
   furthest_over h = let e : count - i ≡ 0 = omega arith in rw e (omega arith)
+
+-- the greater of two in std's order is the greater
+pub later_most : (a b : ℕ) → ord_max nat_cmp a b ≡ max a b
+later_most a b = go (ltb b a) refl
+  where
+    other : (t : Bool) → cond (is_lt (cond t Equal Greater)) a b ≡ b
+    other true = refl
+    other false = refl
+
+    go : (t : Bool) → ltb b a ≡ t → cond (is_lt (cond t Less (cond (b == a) Equal Greater))) a b ≡ max a b
+    go true e = omega (arith, ltb→lt b a (from_true e))
+    go false e = other (b == a) ∙ omega (arith, nltb→le b a (rw e tt))
 
 -- ---- One kind and one width
 

@@ -59,7 +59,7 @@ data_behind false b = refl
 pub told_fields : (m : Mode) (rule : Rule) (label b : List ℕ) (end : ℕ) → end ≤ length b
     → stamp_span end ≡ stamp_room (is_stamped rule.mark)
     → fields_of m rule label b ≡ checked rule (take end b) (drop (stamp_span end) b) (group_of label (take end b) (drop (stamp_span end) b))
-    → finished rule label (take end b) (drop (stamp_span end) b) ≡ told_of m rule label b
+    → finished rule (group_of label (take end b) (drop (stamp_span end) b)) ≡ told_of m rule label b
 told_fields m rule label b end h s e =
     rw (e, length-take-le end b h, data_behind (is_stamped rule.mark) b, ← s)
 

@@ -1,5 +1,5 @@
 -- From the code's own types back to the definitions.
-use mathlib.Core.Path.{◌≡◌, refl, sym, ap, ◌∙◌}
+use mathlib.Core.Path.{◌≡◌, refl, ap}
 use mathlib.Core.Bool.{Bool, true, false}
 use mathlib.Core.Option.{Option, none, some}
 use mathlib.Core.List.{List}
@@ -13,16 +13,12 @@ use Rattle.groups.specs.Stamps.{stamp_right}
 use Rattle.groups.specs.Modes.{mode_of, is_known, known_mode}
 use Rattle.groups.specs.Groups.{read}
 use Rattle.groups.specs.Judging.{judging}
-use Rattle.groups.specs.Stored.{rule_of, rule_found}
 use Rattle.groups.specs.Inside.{result_of, RightFields}
 use Rattle.groups.proofs.Laws.Tests.{zero_is_not_one}
 use Rattle.groups.proofs.Laws.Groups.{checked_given}
 use Rattle.groups.specs.declared.Mode.{Mode}
 use Rattle.groups.specs.declared.Refusal.{Refusal}
 use Rattle.groups.specs.declared.Refusal.TheVariants.{StampWrong, WidthWrong, KindWrong, ModeUnknown}
-use Rattle.groups.specs.declared.find.Found.{Found}
-use Rattle.groups.specs.declared.find.Found.TheVariants.{Listed, Unlisted}
-use Rattle.groups.specs.declared.table.Rule.{Rule as StoredRule}
 
 pub known_is_ok : (o : Option Mode) → is_ok (known_mode o) ≡ is_known o
 known_is_ok none = refl
@@ -35,12 +31,6 @@ known_none (some m) e = let z : ◌≡◌ {A = ℕ} 0 1 = cc in absurd (zero_is_
 pub known_some : (o : Option Mode) {m : Mode} → known_mode o ≡ Ok m → o ≡ some m
 known_some none e = let z : ◌≡◌ {A = ℕ} 0 1 = cc in absurd (zero_is_not_one z)
 known_some (some n) e = cc
-
-pub found_none : {f : Found} {o : Option Rule} → rule_found f ≡ o → f ≡ Unlisted → o ≡ none
-found_none e u = sym e ∙ ap rule_found u
-
-pub found_some : {f : Found} {o : Option Rule} (r : StoredRule) → rule_found f ≡ o → f ≡ Listed r → o ≡ some (rule_of r)
-found_some r e u = sym e ∙ ap rule_found u
 
 -- a value that is accepted is given; a refusal is the same whatever value was asked for
 result_given : {A : Type 0} (a : Answer Refusal A) (b : A) → result_of a ≡ Ok b → a ≡ given b

@@ -1,8 +1,8 @@
 -- The definitions over lists, as a loop from the front uses them: at a place, what is left decides.
-use mathlib.Core.Path.{◌≡◌, refl, sym, ap, subst, ◌∙◌}
+use mathlib.Core.Path.{◌≡◌, refl, sym, ap, ◌∙◌}
 use mathlib.Core.Bool.{Bool, true, false, ◌&&◌}
 use mathlib.Core.List.{List, [], ◌∷◌, ◌++◌}
-use Prim.Native.Nat.{ℕ, zero, suc, ◌+◌, ◌-◌, ◌*◌, ◌%◌, ◌<◌, ◌≤◌, min}
+use Prim.Native.Nat.{ℕ, zero, suc, ◌+◌, ◌-◌, ◌%◌, ◌<◌, ◌≤◌, min}
 use native.Mathlib.Numerals.{add-one, unary_clauses}
 use native.Mathlib.Omega.{arith}
 use lib.Dec.{T, eqb, leb, leb→le}
@@ -14,17 +14,15 @@ use Rattle.characters.specs.Answers.{every, every_at, from_true, is_true, pick, 
 use Rattle.characters.specs.Passing.{Pass}
 use Rattle.groups.specs.Kinds.{of_kind}
 use Rattle.groups.specs.Modes.{separator, counted_at_end}
-use Rattle.groups.specs.Formats.{Rule}
 use Rattle.groups.specs.Table.{same}
 use Rattle.groups.specs.Groups.{total, check}
 use Rattle.groups.specs.Conditions.{first_at}
-use Rattle.groups.specs.Inside.{wrong_at, check_from, RightUpTo, ContentWalk, Split, FrontSum, StartsWith}
+use Rattle.groups.specs.Inside.{wrong_at, check_from, RightUpTo, ContentWalk, FrontSum, StartsWith}
 use Rattle.groups.proofs.Laws.Tests.{split}
 use Rattle.groups.proofs.Laws.Conditions.{front_behind}
 use Rattle.groups.specs.declared.Mode.{Mode}
-use Rattle.groups.specs.declared.reading.Parted.{Parted}
+use Rattle.std.specs.List.{fold}
 use Rattle.groups.specs.declared.table.Kind.TheVariants.{Digits}
-use Rattle.groups.specs.declared.Mode.TheVariants.{Historic, Standard, Business}
 
 -- a content begins with what is taken from its front
 pub starts_with : (n : ℕ) (c : List ℕ) → StartsWith (take n c) c
@@ -132,37 +130,31 @@ two_digits_at s n e i h k =
       digit_least _ (right (i + 1) (omega arith) (omega arith)),
     )
 
-module _ (c : List ℕ) (i : ℕ) where
-  pub total_on : i < length c → total (drop i c) ≡ get_or c i 0 + total (drop (i + 1) c)
-  total_on h = rw (add-one i, drop-cons c i 0 h)
-
-  pub total_over : length c ≤ i → total (drop i c) ≡ 0
-  total_over h = rw (drop_of_length-le c h)
-
 pub total_append : (l b : List ℕ) → total (l ++ b) ≡ total l + total b
 total_append [] b = omega arith
 total_append (x ∷ l) b = omega (arith, total_append l b)
 
-pub check_from_lem : (m : Mode) (l b : List ℕ) → check_from m l (total b) ≡ check m l b
+-- bytes added up by 256 are their sum by 256
+pub folded_total : (s : ℕ) (l : List ℕ) → fold (λ (s x : ℕ). (s + x) % 256) s l % 256 ≡ (s + total l) % 256
+folded_total s [] = omega arith
+folded_total s (x ∷ l) = omega (arith, folded_total ((s + x) % 256) l)
+
+pub check_from_lem : (m : Mode) (l b : List ℕ) → check_from m l (total b % 256) ≡ check m l b
 unfolding check check_from
-check_from_lem m l b =
-    let e : total l + separator m + total b + counted_at_end m ≡ total (l ++ separator m ∷ b) + counted_at_end m =
-    omega (arith, total_append l (separator m ∷ b)) in
-    rw e
+check_from_lem m l b = omega (arith, total_append l (separator m ∷ b))
 
 -- the check character from the sum of all but the last two characters
 pub check_front : (m : Mode) (l rest : List ℕ) (front : ℕ) → FrontSum m l rest front → 2 ≤ length rest
     → (front + counted_at_end m) % 64 + 32 ≡ check m l (take (length rest - 2) rest)
 unfolding check
-check_front m l rest front f h = rw (f.front_is h)
+check_front m l rest front f h = omega (arith, f.front_is h)
 
 pub front_summed : (m : Mode) (c : List ℕ) (f front : ℕ) → ContentWalk (separator m) c f front
     → FrontSum m (take f c) (drop (f + 1) c) front
 front_summed m c f front w = record {
-  small = w.small;
   front_is = λ h.
       let n = length-drop (f + 1) c in
-      w.sum_is (omega arith) ∙ ap total (front_behind (separator m) c f w.first_is h);
+      w.sum_is (omega arith) ∙ ap (λ (c : List ℕ). total c % 256) (front_behind (separator m) c f w.first_is h);
 }
 
 -- the sum up to a place, and the sum from one place to another
@@ -175,22 +167,6 @@ total_between c a e h =
     let split : e ≡ a + (e - a) = omega arith in
     sym (total_append (take a c) (take (e - a) (drop a c))) ∙ ap total (sym (take-add a (e - a) c))
     ∙ ap (λ (n : ℕ). total (take n c)) (sym split)
-
--- codes below 256 add up to at most 255 each
-pub total_most : (c : List ℕ) (n : ℕ) → ((i : ℕ) → get_or c i 0 < 256) → total (take n c) ≤ 255 * n
-total_most c zero h = omega arith
-total_most [] (suc n) h = omega arith
-total_most (x ∷ c) (suc n) h = omega (arith, h 0, total_most c n (λ i. h (suc i)))
-
--- what a body's parting says, at the end that it is known to have given
-pub split_at : (m : Mode) (rule : Rule) (b : List ℕ) {given told : Parted} → Split m rule b given → given ≡ told
-    → Split m rule b told
-split_at m rule b h e = subst (λ (p : Parted). Split m rule b p) e h
-
-pub separator_small : (m : Mode) → separator m ≤ 32
-separator_small Historic = omega arith
-separator_small Standard = omega arith
-separator_small Business = omega arith
 
 and_false : (b : Bool) → (b && false) ≡ false
 and_false true = refl

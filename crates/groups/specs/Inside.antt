@@ -1,6 +1,6 @@
 -- What only the contracts of private functions cite: views of the definitions in the code's own types, and how the code
 -- goes about its work. No promise rests on a reader's belief in these.
-use Rattle.std.specs.Prelude.{◌≡◌, Bool, List, [], ◌∷◌, ◌++◌, ℕ, suc, ◌+◌, ◌-◌, ◌*◌, ◌%◌, ◌≤◌, T as So, length, take, drop, Result, Ok, Err}
+use Rattle.std.specs.Prelude.{◌≡◌, Bool, List, [], ◌∷◌, ◌++◌, ℕ, suc, ◌+◌, ◌-◌, ◌%◌, ◌≤◌, T as So, length, take, drop, Result, Ok, Err, Option as StoredOption, Some, None}
 use Rattle.std.proofs.Math.Option.{some}
 use Rattle.std.proofs.lemmas.List.Edits.{sets}
 use Rattle.characters.specs.Answers.{Answer, refused, given, pick}
@@ -18,8 +18,7 @@ use Rattle.groups.specs.Writing.{into}
 use Rattle.groups.specs.declared.Mode.{Mode}
 use Rattle.groups.specs.declared.Refusal.{Refusal}
 use Rattle.groups.specs.declared.Refusal.TheVariants.{StampWrong}
-use Rattle.groups.specs.declared.reading.Parted.{Parted}
-use Rattle.groups.specs.declared.reading.Parted.TheVariants.{At, Unparted}
+use Rattle.groups.specs.declared.group.Group.{Group as LentGroup}
 use Rattle.groups.specs.declared.Fields.{Fields}
 use Rattle.groups.specs.declared.Fault.{Fault}
 
@@ -30,9 +29,13 @@ abbrev pub result_of : {A : Type 0} → Answer Refusal A → Result A Refusal
 result_of (refused refusal) = Err refusal
 result_of (given a) = Ok a
 
+-- the fields of a group that was lent
+abbrev pub fields_in : LentGroup → Group
+fields_in g = group_of g.label.now g.stamp.now g.«data».now
+
 -- what a rule says of stamp and data
-abbrev pub fitness : Rule → List ℕ → List ℕ → Result (Unit {0}) Refusal
-fitness rule stamp d = result_of (checked rule stamp d tt)
+abbrev pub fitness : Rule → Group → Result (Unit {0}) Refusal
+fitness rule g = result_of (checked rule g.stamp g.«data» tt)
 
 -- how many characters a stamp and the separator behind it take, where the label has one
 abbrev pub stamp_room : Bool → ℕ
@@ -47,14 +50,14 @@ refused_at refusal place = Err (record { refusal = refusal; place = place })
 abbrev pub told_at : Answer Refusal Group → ℕ → ℕ → Result Fields Fault
 told_at a next wrong = shown a (place_for (number_as 1 a) next wrong)
 
--- the first wrong data character behind a stamp
-abbrev pub wrong_behind : Rule → ℕ → List ℕ → List ℕ → ℕ
-wrong_behind rule next stamp d = next + stamp_span (length stamp) + first_wrong rule d
+-- the first wrong data character behind a label and a stamp
+abbrev pub wrong_behind : Rule → Group → ℕ
+wrong_behind rule g = length g.label + 1 + stamp_span (length g.stamp) + first_wrong rule g.«data»
 
 -- of a label's fields
-abbrev pub finished : Rule → List ℕ → List ℕ → List ℕ → Result Fields Fault
-finished rule label stamp d =
-    told_at (checked rule stamp d (group_of label stamp d)) (length label + 1) (wrong_behind rule (length label + 1) stamp d)
+abbrev pub finished : Rule → Group → Result Fields Fault
+finished rule g =
+    told_at (checked rule g.stamp g.«data» g) (length g.label + 1) (wrong_behind rule g)
 
 -- of a label with its rule, and a body
 abbrev pub told_of : Mode → Rule → List ℕ → List ℕ → Result Fields Fault
@@ -82,37 +85,34 @@ wrong_at f (x ∷ xs) = pick (f x) (suc (wrong_at f xs)) 0
 abbrev pub RightUpTo : (ℕ → Bool) → List ℕ → ℕ → Type 0
 RightUpTo f c n = (n ≤ length c) × (wrong_at f c ≡ n + wrong_at f (drop n c))
 
--- the first of a code in a text, the length where there is none, and the sum of all before it
+-- the first of a code in a text, the length where there is none, and the sum of all before it, by 256
 pub record LabelWalk (code : ℕ) (text : List ℕ) (first sum : ℕ) : Type 0 where
   pub first_is : first ≡ first_at code text
   pub first_most : first ≤ length text
-  pub sum_is : sum ≡ total (take first text)
-  pub sum_most : sum ≤ 255 * first
+  pub sum_is : sum ≡ total (take first text) % 256
 
--- the first separator of a content, and the sum of all but the last two characters, where the separator is none of them
+-- the first separator of a content, and the sum of all but the last two characters, by 256, where the separator is none of them
 pub record ContentWalk (s : ℕ) (c : List ℕ) (first sum : ℕ) : Type 0 where
   pub first_is : first ≡ first_at s c
-  pub small : sum ≤ 32640
-  pub sum_is : first + 3 ≤ length c → sum ≡ total (take (length c - 2) c)
+  pub sum_is : first + 3 ≤ length c → sum ≡ total (take (length c - 2) c) % 256
 
 -- where a body's stamp ends, and so what its fields are; or that it is not parted
-abbrev pub Split : Mode → Rule → List ℕ → Parted → Type 0
-Split m rule b (At end) =
+abbrev pub Split : Mode → Rule → List ℕ → StoredOption ℕ → Type 0
+Split m rule b (Some end) =
     (end ≤ length b)
     × (stamp_span end ≤ length b)
     × (stamp_span end ≡ stamp_room (is_stamped rule.mark))
     × ((label : List ℕ) → fields_of m rule label b
     ≡ checked rule (take end b) (drop (stamp_span end) b) (group_of label (take end b) (drop (stamp_span end) b)))
-Split m rule b Unparted = (label : List ℕ) → fields_of m rule label b ≡ refused StampWrong
+Split m rule b None = (label : List ℕ) → fields_of m rule label b ≡ refused StampWrong
 
 -- the check character from the sum of the body
 unfoldable pub check_from : Mode → List ℕ → ℕ → ℕ
 check_from m label rest = (total label + separator m + rest + counted_at_end m) % 64 + 32
 
--- the sum of a label, its separator and what follows up to the last two characters, where there are two
+-- the sum of a label, its separator and what follows up to the last two characters, by 256, where there are two
 pub record FrontSum (m : Mode) (label rest : List ℕ) (front : ℕ) : Type 0 where
-  pub small : front ≤ 32640
-  pub front_is : 2 ≤ length rest → front ≡ total (label ++ separator m ∷ take (length rest - 2) rest)
+  pub front_is : 2 ≤ length rest → front ≡ total (label ++ separator m ∷ take (length rest - 2) rest) % 256
 
 -- a content begins with a label
 pub record StartsWith (label c : List ℕ) : Type 0 where

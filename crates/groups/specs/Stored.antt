@@ -1,7 +1,7 @@
 -- Forms and rules as the code stores them (`src/table.rt` says what stands where; its rows are in `Packed.antt`). Only contracts
 -- of private functions cite this; that the stored forms are those of `Table.antt` is computed in the proof of `form_of`.
 use Rattle.std.proofs.Math.Option.{Option, none, some}
-use Rattle.std.specs.Prelude.{List, [], ◌∷◌, ◌++◌, ℕ, zero, suc, ◌+◌, ◌<◌, ◌≤◌, eqb, length, get_or}
+use Rattle.std.specs.Prelude.{List, [], ◌∷◌, ◌++◌, ℕ, zero, suc, ◌+◌, ◌<◌, ◌≤◌, eqb, length, get_or, Option as StoredOption, Some, None}
 use Rattle.characters.specs.Answers.{pick}
 use Rattle.groups.specs.Forms.{Form, last_of}
 use Rattle.groups.specs.Formats.{Field, run, Rule}
@@ -19,8 +19,6 @@ use Rattle.groups.specs.Table.{
   notice,
   dated_name,
 }
-use Rattle.groups.specs.declared.find.Found.{Found}
-use Rattle.groups.specs.declared.find.Found.TheVariants.{Listed, Unlisted}
 use Rattle.groups.specs.declared.table.Kind.TheVariants.{Digits}
 use Rattle.groups.specs.declared.table.Mark.TheVariants.{Unstamped}
 use Rattle.groups.specs.declared.table.Plain.{Plain}
@@ -92,9 +90,9 @@ rule_of (stored.Plain p) = plain_rule p
 rule_of (stored.Formed f) = formed_rule f
 
 -- the rule that was found, if one was
-abbrev pub rule_found : Found → Option Rule
-rule_found Unlisted = none
-rule_found (Listed r) = some (rule_of r)
+abbrev pub rule_found : StoredOption StoredRule → Option Rule
+rule_found None = none
+rule_found (Some r) = some (rule_of r)
 
 -- ---- Data between two texts
 

@@ -3,35 +3,25 @@
 // A label is compared by its first eight bytes as one number, the first on top, so that the order of these keys is that of the
 // bytes; no two labels of a mode have the same. Of the row that is left, the length and the ninth byte are compared too.
 ghost use Rattle.std.specs.Prelude.{◌≡◌, [], ◌∷◌, ◌+◌, ◌*◌, ◌/◌, ◌^◌, ◌-◌, ◌≤◌, ◌<◌, T as So, length, take};
-ghost use Rattle.std.proofs.Math.Option.{some, none};
-ghost use Rattle.characters.specs.Answers.{pick};
 ghost use Rattle.groups.specs.Table.{lookup, rows};
-ghost use Rattle.groups.specs.Stored.{rule_found};
-ghost use Rattle.groups.specs.Packed.{packed, key_of, tail_of, kind_in, mark_in, plain_in, formed_in};
+ghost use Rattle.groups.specs.Stored.{plain_rule, formed_rule, rule_of, rule_found};
+ghost use Rattle.groups.specs.Packed.{packed, key_of, tail_of, kind_in, mark_in, plain_in, formed_in, rule_in};
 ghost use Rattle.groups.specs.Packed.{is_named, rising, Nearest, Decides};
 ghost use Rattle.groups.specs.declared.Mode.TheVariants.{Historic, Standard, Business};
 
 use crate::table::{Forms, Kind, Mark, Plain, Row, Rule};
 use crate::{Mode, table};
 
-#[derive(Clone, Copy)]
-pub(crate) enum Found {
-    Listed(Rule),
-    Unlisted,
-}
-
 // The key of the first n bytes of a text, byte by byte from the last one on.
 fn key_by_bytes(text: &[u8], n: usize) -> u64
     requires { n ≤ length text.now }
     ensures { result ≡ key_of (take n text.now) }
 {
-    let mut key: u64 = 0;
-    let mut i = n;
-    while 0 < i {
-        i -= 1;
-        key = key / 256 + text[i] as u64 * 0x0100_0000_0000_0000;
-    }
-    key
+    let behind_first = text[..n].iter().rev();
+    behind_first.fold(
+        0,
+        |key: u64, byte| key / 256 + u64::from(*byte) * 0x0100_0000_0000_0000,
+    )
 }
 
 // Four bytes as one number.
@@ -219,57 +209,67 @@ fn mark_in(number: u64) -> Mark
 fn is_named(row: Row, key: u64, tail: u64) -> bool
     ensures { result ≡ is_named key tail row }
 {
-    (key == row.0) & (tail == row.1)
+    let Row(row_key, row_tail, _) = row;
+    (key == row_key) & (tail == row_tail)
 }
 
-// The rule that a row of modes 0 and 1 has for a label; so below, in mode 2.
-fn plain_rule(row: Row, key: u64, tail: u64) -> Found
-    ensures { rule_found result ≡ pick (is_named key tail row) (some (plain_in row.2)) none }
+// The rule that a row of modes 0 and 1 has.
+fn plain(number: u64) -> Plain
+    ensures { plain_rule result ≡ plain_in number }
 {
-    if is_named(row, key, tail) {
-        let number = row.2;
-        let kind = kind_in(number / 16 % 16);
-        let mark = mark_in(number % 16);
-        return Found::Listed(Rule::Plain(Plain {
-            width: (number / 256) as usize,
-            kind,
-            mark,
-        }));
+    Plain {
+        width: (number / 256) as usize,
+        kind: kind_in(number / 16 % 16),
+        mark: mark_in(number % 16),
     }
-    Found::Unlisted
 }
 
-fn formed_rule(row: Row, key: u64, tail: u64) -> Found
-    ensures { rule_found result ≡ pick (is_named key tail row) (some (formed_in row.2)) none }
+// The rule that a row of mode 2 has.
+fn forms(number: u64) -> Forms
+    ensures { formed_rule result ≡ formed_in number }
 {
-    if is_named(row, key, tail) {
-        let number = row.2;
-        return Found::Listed(Rule::Formed(Forms {
-            smallest: (number / 0x10_0000) as usize,
-            largest: (number / 0x1000 % 256) as usize,
-            first: (number / 16 % 256) as u8,
-            count: (number % 16) as u8,
-        }));
+    Forms {
+        smallest: (number / 0x10_0000) as usize,
+        largest: (number / 0x1000 % 256) as usize,
+        first: (number / 16 % 256) as u8,
+        count: (number % 16) as u8,
     }
-    Found::Unlisted
+}
+
+// The row that alone can have this key in the list of a mode.
+fn row_of(mode: Mode, key: u64) -> Row
+    ensures { Decides mode key result }
+{
+    match mode {
+        Mode::Historic => historic(key),
+        Mode::Standard => standard(key),
+        Mode::Business => business(key),
+    }
+}
+
+// The rule that a row of a mode has as a number.
+fn rule_in(mode: Mode, number: u64) -> Rule
+    ensures { rule_of result ≡ rule_in mode number }
+{
+    match mode {
+        Mode::Historic | Mode::Standard => Rule::Plain(plain(number)),
+        Mode::Business => Rule::Formed(forms(number)),
+    }
 }
 
 // The rule of a label, the first n bytes of a text, in a mode's list.
-pub(crate) fn find(mode: Mode, text: &[u8], n: usize) -> Found
+pub(crate) fn find(mode: Mode, text: &[u8], n: usize) -> Option<Rule>
     requires { n ≤ length text.now }
     ensures { rule_found result ≡ lookup (take n text.now) (rows mode) }
 {
-    if n == 0 {
-        return Found::Unlisted;
-    }
-    if 9 < n {
-        return Found::Unlisted;
+    if n == 0 || 9 < n {
+        return None;
     }
     let key = key_of(text, n);
-    let tail = tail_of(text, n);
-    match mode {
-        Mode::Historic => plain_rule(historic(key), key, tail),
-        Mode::Standard => plain_rule(standard(key), key, tail),
-        Mode::Business => formed_rule(business(key), key, tail),
+    let row = row_of(mode, key);
+    if is_named(row, key, tail_of(text, n)) {
+        Some(rule_in(mode, row.2))
+    } else {
+        None
     }
 }

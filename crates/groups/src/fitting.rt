@@ -1,23 +1,24 @@
 // What a rule asks of stamp and data; reader and writer both ask it.
-ghost use Rattle.std.specs.Prelude.{◌≡◌, true, ◌+◌, ◌≤◌, max, length};
+ghost use Rattle.std.specs.Prelude.{◌≡◌, true, ◌+◌, ◌≤◌, length};
 ghost use Rattle.characters.specs.Passing.{Pass};
 ghost use Rattle.groups.specs.Kinds.{of_kind};
 ghost use Rattle.groups.specs.Forms.{takes};
 ghost use Rattle.groups.specs.Formats.{forms as forms_of};
 ghost use Rattle.groups.specs.Stored.{plain_rule, formed_rule, rule_of, form_in, formats_from};
 ghost use Rattle.groups.specs.Place.{agreed as agreed_of, reach as reach_of, furthest as furthest_of, first_wrong};
-ghost use Rattle.groups.specs.Inside.{RightUpTo, wrong_at, fitness};
+ghost use Rattle.groups.specs.Inside.{RightUpTo, wrong_at, fields_in, fitness};
 
-use crate::table::{Form, Forms, Kind, Mark, Plain, Rule};
+use crate::group::Group;
+use crate::table::{Form, Forms, Kind, Plain, Rule};
 use crate::{Refusal, quick, stamps, table};
 
 pub(crate) fn of_kind(kind: Kind, code: u8) -> bool
     ensures { result ≡ of_kind kind code }
 {
     match kind {
-        Kind::Digits => (b'0' <= code) & (code <= b'9'),
-        Kind::Hex => (b'0' <= code) & (code <= b'9') | (b'A' <= code) & (code <= b'F'),
-        Kind::Text => (b' ' <= code) & (code <= b'~'),
+        Kind::Digits => matches!(code, b'0'..=b'9'),
+        Kind::Hex => matches!(code, b'0'..=b'9' | b'A'..=b'F'),
+        Kind::Text => matches!(code, b' '..=b'~'),
     }
 }
 
@@ -27,12 +28,9 @@ fn eight_of_kind(kind: Kind, text: &[u8], from: usize) -> bool
     requires { from + 8 ≤ length text.now }
     ensures { result ≡ true → Pass (of_kind kind) text.now from (from + 8) }
 {
-    let end = from + 8;
     let mut right = true;
-    let mut i = from;
-    while i < end {
+    for i in from..from + 8 {
         right = right & of_kind(kind, text[i]);
-        i += 1;
     }
     right
 }
@@ -56,34 +54,25 @@ fn eights_of_kind(kind: Kind, text: &[u8]) -> usize
 pub(crate) fn wrong_at(kind: Kind, text: &[u8]) -> usize
     ensures { result ≡ wrong_at (of_kind kind) text.now }
 {
-    let mut i = eights_of_kind(kind, text);
-    while i < text.len() {
-        if of_kind(kind, text[i]) {
-            i += 1;
-        } else {
+    for i in eights_of_kind(kind, text)..text.len() {
+        if !of_kind(kind, text[i]) {
             return i;
         }
     }
-    i
+    text.len()
 }
 
 // Whether a character of a picture takes a character of data.
 fn taken(picture: u8, code: u8) -> bool
     ensures { result ≡ takes picture code }
 {
-    if picture == b'9' {
-        return of_kind(Kind::Digits, code);
+    match picture {
+        b'9' => of_kind(Kind::Digits, code),
+        b'0' => of_kind(Kind::Hex, code),
+        b'*' => of_kind(Kind::Text, code),
+        b',' => matches!(code, b',' | b'.'),
+        _ => code == picture,
     }
-    if picture == b'0' {
-        return of_kind(Kind::Hex, code);
-    }
-    if picture == b'*' {
-        return of_kind(Kind::Text, code);
-    }
-    if picture == b',' {
-        return (code == b',') | (code == b'.');
-    }
-    code == picture
 }
 
 // How many characters of data, from the first on, a picture of their length takes.
@@ -91,24 +80,12 @@ fn agreed(picture: &[u8], data: &[u8]) -> usize
     requires { length picture.now ≡ length «data».now }
     ensures { result ≡ agreed_of picture.now «data».now }
 {
-    let mut i = 0;
-    while i < data.len() {
-        if taken(picture[i], data[i]) {
-            i += 1;
-        } else {
+    for (i, code) in data.iter().enumerate() {
+        if !taken(picture[i], *code) {
             return i;
         }
     }
-    i
-}
-
-fn larger(a: usize, b: usize) -> usize
-    ensures { result ≡ max a b }
-{
-    if a < b {
-        return b;
-    }
-    a
+    data.len()
 }
 
 // How far data get in a form: 0 where it has not their length, else one more than the characters that its picture takes from
@@ -117,14 +94,9 @@ fn reach(form: Form, data: &[u8]) -> usize
     requires { form.1 ≤ 21 }
     ensures { result ≡ reach_of (form_in form) «data».now }
 {
-    let least = form.0;
-    let most = form.1;
-    let picture = form.2;
+    let Form(least, most, picture) = form;
     let n = data.len();
-    if n < least {
-        return 0;
-    }
-    if most < n {
+    if n < least || most < n {
         return 0;
     }
     let start = 21 - n;
@@ -135,63 +107,42 @@ fn reach(form: Form, data: &[u8]) -> usize
 fn furthest(forms: Forms, data: &[u8]) -> usize
     ensures { result ≡ furthest_of (forms_of (formats_from forms.first forms.count)) «data».now }
 {
-    let first = forms.first as usize;
-    let count = forms.count as usize;
+    let first = usize::from(forms.first);
     let mut best = 0;
-    let mut i = 0;
-    while i < count {
-        let form = table::form_of(first + i);
-        let reached = reach(form, data);
-        best = larger(best, reached);
-        i += 1;
+    for i in 0..usize::from(forms.count) {
+        best = best.max(reach(table::form_of(first + i), data));
     }
     best
 }
 
-// The mark of a rule: no label that has forms is stamped.
-pub(crate) fn mark_of(rule: Rule) -> Mark
-    ensures { result ≡ (rule_of rule).mark }
-{
-    match rule {
-        Rule::Plain(plain) => plain.mark,
-        Rule::Formed(_) => Mark::Unstamped,
-    }
-}
-
 // The tests of data of one kind and one width, in document 01's order.
-fn fit_plain(rule: Plain, stamp: &[u8], data: &[u8]) -> Result<(), Refusal>
-    ensures { result ≡ fitness (plain_rule rule) stamp.now «data».now }
+fn fit_plain(rule: Plain, group: Group) -> Result<(), Refusal>
+    ensures { result ≡ fitness (plain_rule rule) (fields_in group.entry) }
 {
-    let mark = rule.mark;
-    let width = rule.width;
-    let kind = rule.kind;
-    if stamps::stamp_right(mark, stamp) {
-        if data.len() == width {
-            if wrong_at(kind, data) == data.len() {
-                return Ok(());
-            }
-            return Err(Refusal::KindWrong);
-        }
+    let data = group.data;
+    if !stamps::stamp_right(rule.mark, group.stamp) {
+        return Err(Refusal::StampWrong);
+    }
+    if data.len() != rule.width {
         return Err(Refusal::WidthWrong);
     }
-    Err(Refusal::StampWrong)
+    if wrong_at(rule.kind, data) != data.len() {
+        return Err(Refusal::KindWrong);
+    }
+    Ok(())
 }
 
 // The tests of data that have forms, and of their stamp, which is to be empty. The quick way says yes to data that have one;
 // where it does not, how far they get in the pictures decides.
-fn fit_forms(forms: Forms, stamp: &[u8], data: &[u8]) -> Result<(), Refusal>
-    ensures { result ≡ fitness (formed_rule forms) stamp.now «data».now }
+fn fit_forms(forms: Forms, group: Group) -> Result<(), Refusal>
+    ensures { result ≡ fitness (formed_rule forms) (fields_in group.entry) }
 {
-    let smallest = forms.smallest;
-    let largest = forms.largest;
+    let data = group.data;
     let n = data.len();
-    if stamp.len() != 0 {
+    if !group.stamp.is_empty() {
         return Err(Refusal::StampWrong);
     }
-    if n < smallest {
-        return Err(Refusal::WidthWrong);
-    }
-    if largest < n {
+    if n < forms.smallest || forms.largest < n {
         return Err(Refusal::WidthWrong);
     }
     if quick::surely_fits(forms, data) {
@@ -204,12 +155,12 @@ fn fit_forms(forms: Forms, stamp: &[u8], data: &[u8]) -> Result<(), Refusal>
 }
 
 // Whether stamp and data are what a rule asks for, or the refusal.
-pub(crate) fn fit(rule: Rule, stamp: &[u8], data: &[u8]) -> Result<(), Refusal>
-    ensures { result ≡ fitness (rule_of rule) stamp.now «data».now }
+pub(crate) fn fit(rule: Rule, group: Group) -> Result<(), Refusal>
+    ensures { result ≡ fitness (rule_of rule) (fields_in group.entry) }
 {
     match rule {
-        Rule::Plain(plain) => fit_plain(plain, stamp, data),
-        Rule::Formed(forms) => fit_forms(forms, stamp, data),
+        Rule::Plain(plain) => fit_plain(plain, group),
+        Rule::Formed(forms) => fit_forms(forms, group),
     }
 }
 
@@ -217,23 +168,18 @@ pub(crate) fn fit(rule: Rule, stamp: &[u8], data: &[u8]) -> Result<(), Refusal>
 fn wrong_plain(rule: Plain, data: &[u8]) -> usize
     ensures { (result ≡ first_wrong (plain_rule rule) «data».now) × (result ≤ length «data».now) }
 {
-    let width = rule.width;
-    let kind = rule.kind;
-    if data.len() == width {
-        return wrong_at(kind, data);
+    if data.len() == rule.width {
+        wrong_at(rule.kind, data)
+    } else {
+        0
     }
-    0
 }
 
 // The same for data that have forms: those that they get through in the form in which they get furthest.
 fn wrong_formed(forms: Forms, data: &[u8]) -> usize
     ensures { (result ≡ first_wrong (formed_rule forms) «data».now) × (result ≤ length «data».now) }
 {
-    let reached = furthest(forms, data);
-    if reached == 0 {
-        return 0;
-    }
-    reached - 1
+    furthest(forms, data).saturating_sub(1)
 }
 
 // How many data characters stand before the first wrong one, in data that a rule does not take (M-104).

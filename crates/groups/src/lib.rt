@@ -3,6 +3,7 @@
 
 mod find;
 mod fitting;
+mod group;
 mod modes;
 mod quick;
 mod reading;
@@ -17,6 +18,8 @@ ghost use Rattle.groups.specs.Judging.{Part};
 ghost use Rattle.groups.specs.Place.{judgement};
 ghost use Rattle.groups.specs.Numbers.{number_of, number_of_refusal, number_of_writing};
 ghost use Rattle.groups.specs.Writing.{writing, Wrote};
+
+use group::Group;
 
 #[derive(Clone, Copy, PartialEq, Eq)]
 pub enum Mode {
@@ -111,7 +114,7 @@ pub fn write(
 ) -> Result<usize, Refusal>
     ensures { Wrote (writing mode (group_of label.now stamp.now «data».now) (length buffer.old)) buffer.old result buffer.new }
 {
-    writing::write_in(Mode::try_from(mode)?, label, stamp, data, buffer)
+    writing::write_in(Mode::try_from(mode)?, Group { label, stamp, data }, buffer)
 }
 
 // Document 01's number of a judgement.

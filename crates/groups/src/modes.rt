@@ -20,23 +20,24 @@ impl TryFrom<u8> for Mode {
     }
 }
 
-pub(crate) fn separator_of(mode: Mode) -> u8
-    ensures { result ≡ separator mode }
-{
-    match mode {
-        Mode::Historic => characters::SP,
-        Mode::Standard => characters::HT,
-        Mode::Business => characters::SP,
+impl Mode {
+    pub(crate) fn separator(self) -> u8
+        ensures { result ≡ separator self }
+    {
+        match self {
+            Mode::Historic | Mode::Business => characters::SP,
+            Mode::Standard => characters::HT,
+        }
     }
-}
 
-// What the final separator adds to the sum.
-pub(crate) fn counted_at_end(mode: Mode) -> u8
-    ensures { result ≡ counted_at_end mode }
-{
-    match mode {
-        Mode::Historic => 0,
-        Mode::Standard => separator_of(mode),
-        Mode::Business => 0,
+    // What the final separator adds to the sum.
+    pub(crate) fn counted_at_end(self) -> u8
+        ensures { result ≡ counted_at_end self }
+    {
+        match self {
+            Mode::Historic => 0,
+            Mode::Standard => self.separator(),
+            Mode::Business => 0,
+        }
     }
 }

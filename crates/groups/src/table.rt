@@ -11,7 +11,8 @@
 
 ghost use Rattle.std.specs.Prelude.{◌≡◌, ◌≤◌};
 ghost use Rattle.groups.specs.Formats.{form_of};
-ghost use Rattle.groups.specs.Stored.{form_in, format_at};
+ghost use Rattle.groups.specs.Stamps.{is_stamped};
+ghost use Rattle.groups.specs.Stored.{form_in, format_at, rule_of};
 
 // Data kinds, document 01's letters in this order: N, decimal digits; X, digits and A to F; T, any of space to tilde.
 #[derive(Clone, Copy)]
@@ -29,11 +30,31 @@ pub enum Mark {
     Space,
 }
 
+impl Mark {
+    pub(crate) fn is_stamped(self) -> bool
+        ensures { result ≡ is_stamped self }
+    {
+        matches!(self, Mark::Letter | Mark::Space)
+    }
+}
+
 // What a label asks of stamp and data: data of one kind and one width, or data of one of some forms and no stamp.
 #[derive(Clone, Copy)]
 pub enum Rule {
     Plain(Plain),
     Formed(Forms),
+}
+
+impl Rule {
+    // No label that has forms is stamped.
+    pub(crate) fn mark(self) -> Mark
+        ensures { result ≡ (rule_of self).mark }
+    {
+        match self {
+            Rule::Plain(plain) => plain.mark,
+            Rule::Formed(_) => Mark::Unstamped,
+        }
+    }
 }
 
 #[derive(Clone, Copy)]

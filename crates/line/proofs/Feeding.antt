@@ -3,17 +3,13 @@ use mathlib.Core.Path.{◌≡◌, refl, sym, ap, ◌∙◌}
 use mathlib.Core.List.{List, ◌∷◌}
 use Prim.Native.Nat.{ℕ, ◌+◌, ◌-◌, ◌≤◌}
 use Rattle.std.proofs.Common.{length, take, drop, length-drop, arith, []}
-use native.Mathlib.Numerals.{add-one}
-use lib.ListN.{length, get_or, drop, drop_of_length-le}
-use lib.Seq.{drop-cons}
+use lib.ListN.{length, drop}
 use Rattle.line.specs.State.{written}
 use Rattle.line.specs.Steps.{reacted, Stepped, FedTo, fed_on, Fed, fed}
 use Rattle.line.proofs.InRows.{step_written, rest_is}
 use Rattle.line.specs.declared.state.Line.{Line}
 use Rattle.line.specs.declared.Heard.{Heard}
 use Rattle.line.specs.declared.LineState.{LineState}
-use Rattle.groups.specs.declared.Fields.{Fields}
-use Rattle.line.specs.declared.Notice.{Notice}
 use Rattle.line.specs.declared.Heard.TheVariants.{Nothing, Accepted, Told}
 use Rattle.line.specs.declared.Taken.{Taken}
 use Rattle.line.specs.declared.step.Reaction.{Reaction}

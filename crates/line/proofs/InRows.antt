@@ -1,66 +1,10 @@
 -- Bytes in a row: each does what `step` would do with it.
-use Rattle.std.proofs.Common.{
-  ◌≡◌,
-  refl,
-  sym,
-  ap,
-  subst,
-  ◌∙◌,
-  Bool,
-  true,
-  false,
-  not,
-  ◌&&◌,
-  ◌||◌,
-  T,
-  cond,
-  List,
-  [],
-  ◌∷◌,
-  ◌++◌,
-  map,
-  ℕ,
-  zero,
-  suc,
-  ◌+◌,
-  ◌-◌,
-  ◌≤◌,
-  ◌<◌,
-  eqb,
-  leb,
-  length,
-  get_or,
-  set,
-  take,
-  drop,
-  add-zero,
-  add_assoc,
-  add-suc,
-  add-one,
-  one-add,
-  arith,
-  nat_lt,
-  drop-cons,
-  append_assoc,
-  length-append,
-  length-drop,
-  drop-drop,
-  take_all,
-  take_at,
-  drop_at,
-  length-take,
-  length-take-le,
-  take-append-drop,
-  take-take,
-  min,
-  fold,
-  ltb,
-}
-use Rattle.std.proofs.Math.Seq.{set-append_seam, take-append_seam, drop-append_seam, take-add}
+use Rattle.std.proofs.Common.{◌≡◌, refl, sym, ap, subst, ◌∙◌, Bool, true, false, not, ◌&&◌, ◌||◌, T, cond, List, [], ◌∷◌, ◌++◌, map, ℕ, zero, suc, ◌+◌, ◌-◌, ◌≤◌, ◌<◌, eqb, leb, length, get_or, set, take, drop, add-zero, add_assoc, add-one, one-add, arith, nat_lt, drop-cons, append_assoc, length-append, length-drop, drop-drop, take_all, take_at, drop_at, length-take, length-take-le, take-append-drop, take-take, min, fold, ltb}
+use Rattle.std.proofs.Math.Seq.{set-append_seam, take-add}
 use Rattle.std.proofs.lemmas.Bool.{false≢true, lt-ltb, ltb-true, ltb-false, ne_eqb, eqb-true, eqb-false, leb-true}
 use Rattle.std.proofs.lemmas.List.{map-append, length-map, set_split, get_or-take, get_or-drop}
 use Rattle.std.proofs.lemmas.List.Sums.{prefix_len-le-length}
-use Rattle.std.proofs.Math.Bool.{or-false, or-true}
+use Rattle.std.proofs.Math.Bool.{or-false}
 use Rattle.std.specs.List.{prefix_len}
 use Rattle.characters.specs.Answers.{pick}
 use Rattle.characters.specs.Wire.{is_sound, character_of, wire_byte_of, STX, ETX, EOT, HT, LF, CR, SP}
@@ -73,7 +17,7 @@ use Rattle.line.specs.ByBytes.{is}
 use Rattle.line.proofs.Laws.LookingBack.{is_as, tests}
 use Rattle.line.proofs.Laws.FrameNumbers.{at_other}
 use Rattle.line.specs.State.{phase_of, held_in, state_of, IsLine, IsRead, written}
-use Rattle.line.specs.Steps.{acted, quiet_of, reacted, stepped, fed}
+use Rattle.line.specs.Steps.{acted, reacted, stepped, fed}
 use Rattle.line.proofs.Views.{held_most, mode_kept, frame_kept, phase_back}
 use Rattle.line.specs.Runs.{goes_on, is_plain_byte, Lays, Passes, Runs}
 use Rattle.line.specs.declared.LineState.{LineState}
@@ -81,8 +25,7 @@ use Rattle.line.specs.declared.rules.Symbol.{Symbol}
 use Rattle.line.specs.declared.rules.Symbol.TheVariants.{Stx, Etx, Eot, Lf, Cr, Damaged, Text}
 use Rattle.line.specs.declared.rules.Phase.{Phase}
 use Rattle.line.specs.declared.rules.Phase.TheVariants.{Outside, Frame, Group}
-use Rattle.line.specs.declared.rules.Move.{Move}
-use Rattle.line.specs.declared.rules.Move.TheVariants.{Quiet, Opens}
+use Rattle.line.specs.declared.rules.Move.TheVariants.{Quiet}
 use Rattle.line.specs.declared.rows.Run.{Run}
 use Rattle.line.specs.declared.state.Line.{Line}
 

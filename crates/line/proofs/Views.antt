@@ -1,10 +1,10 @@
 -- What bytes do to the numbers and the lent bytes of a line, on every value, is what they do to document 01's line.
 use Rattle.std.specs.Prelude.{◌≡◌, refl, Bool, true, false, ◌||◌, List, [], ◌∷◌, ◌++◌, ℕ, suc, ◌+◌, ◌≤◌, ltb, min, length, take, set}
-use Rattle.std.proofs.Common.{sym, ◌∙◌, arith, add-one, ltb→lt, nltb→le, length-set, take_all, take-suc-set, length-take-le, ltb-true}
+use Rattle.std.proofs.Common.{sym, ◌∙◌, arith, add-one, length-set, take-suc-set, length-take-le, ltb-true}
 use Rattle.std.proofs.Math.Option.{Option, none, some}
 use Rattle.std.proofs.lemmas.List.{take_min}
 use mir.Val.{bool_byte}
-use Rattle.characters.specs.Answers.{Answer, refused, given, pick, by_pick}
+use Rattle.characters.specs.Answers.{Answer, refused, given, pick}
 use Rattle.groups.specs.Groups.{Group}
 use Rattle.groups.specs.Judging.{judging, places_of, shown, part_of, Shows, Inside}
 use Rattle.groups.specs.Place.{place_of, judgement}

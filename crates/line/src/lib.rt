@@ -21,7 +21,8 @@ use rules::Phase;
 use state::Line;
 
 // What a line keeps, beside the bytes of its content. No call makes other values than those that `state` writes, and
-// every other value is read as one of them.
+// every other value is read as one of them. It stays numbers, and no enum with its marks: C keeps it (include/espandim.h), and
+// `feed` takes every value of it.
 #[repr(C)]
 #[derive(Clone, Copy)]
 pub struct LineState {
@@ -47,7 +48,8 @@ pub enum Notice {
     GroupRefused(Refusal, u8),
 }
 
-// What a byte gave: no answer, an accepted group, whose fields stand in the lent content, or a notice.
+// What a byte gave: no answer, an accepted group, whose fields stand in the lent content, or a notice. Three cases of its own,
+// and no Option of a Result: most notices are no errors.
 #[derive(Clone, Copy)]
 pub enum Heard {
     Nothing,
@@ -80,7 +82,8 @@ pub fn open(mode: u8) -> Option<LineState>
     }))
 }
 
-// Takes bytes from the front, up to one that gives an answer.
+// Takes bytes from the front, up to one that gives an answer. The content is lent beside the line and is no part of it: in C it
+// lies in the caller's memory (include/espandim.h).
 pub fn feed(line: LineState, content: &mut [u8; 128], bytes: &[u8]) -> Taken
     ensures { Fed (fed 0 line content.old bytes.now) result content.new }
 {
@@ -150,6 +153,7 @@ pub fn number_of_opening(opening: Option<LineState>) -> u8
     }
 }
 
+// By a match, and no discriminants: a refused group has fields.
 fn number_of_notice(notice: Notice) -> u8
     ensures { result ≡ number_of_notice notice }
 {

@@ -18,8 +18,8 @@ pub struct Run {
     pub count: usize,
 }
 
-// How many bytes at the front are no STX. Outside they do nothing; an STX is left to `step`: it begins a frame, and so no row
-// has one.
+// How many bytes at the front are no STX. Outside they do nothing; an STX is left to `step`: it begins a frame, and so no
+// row has one.
 fn pass_outside(bytes: &[u8]) -> usize
     ensures { result ≡ prefix_len (λ byte. not (is STX byte)) bytes.now }
 {
@@ -46,8 +46,8 @@ fn pass_noise(bytes: &[u8]) -> usize
     bytes.iter().take_while(|&&byte| goes_on(byte)).count()
 }
 
-// Takes bytes of a frame while they give no answer, up to and with an LF. Behind a group an LF comes as a rule, so it is looked
-// for first. Its wire byte is its code, since that has two ones.
+// Takes bytes of a frame while they give no answer, up to and with an LF. Behind a group an LF comes as a rule, so it is
+// looked for first. Its wire byte is its code, since that has two ones.
 fn pass_frame(flaw: bool, bytes: &[u8]) -> (Phase, usize)
     ensures { Passes (Phase.Frame flaw) bytes.now result.0 result.1 }
 {
@@ -107,7 +107,8 @@ fn codes_of(eight: &[u8; 8]) -> [u8; 8]
     eight.map(characters::character)
 }
 
-// Adds the plain characters at the front, eight by eight, and tells how many they are.
+// Adds the plain characters at the front, eight by eight, and tells how many they are. The room is written by place: of what a
+// chain over `chunks_exact_mut` writes, a proof knows the length alone.
 fn add_eights(room: &mut [u8], bytes: &[u8]) -> usize
     requires { length bytes.now ≤ length room.old }
     ensures { Lays room.old bytes.now result room.new }

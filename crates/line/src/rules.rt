@@ -18,7 +18,7 @@ pub enum Symbol {
 }
 
 // Where a line is: outside; in a frame, flawed or not; in a group of a frame, flawed or not, that is damaged or not and
-// too long or not.
+// too long or not. The three flags are no struct of their own: with one a byte takes 8 to 10 % more instructions (tally).
 #[derive(Clone, Copy)]
 pub enum Phase {
     Outside,

@@ -49,15 +49,10 @@ fn move_of(phase: Phase, byte: u8) -> Move
 fn ended(line: Line, flaw: bool, heard: Heard) -> Reaction
     ensures { (content : _) → Stepped (ended_of line.mode line.frame flaw heard content) result content }
 {
-    match heard {
-        Heard::Accepted(_) => Reaction {
-            line: line.turned(Phase::Frame(flaw), 0),
-            heard,
-        },
-        _ => Reaction {
-            line: line.turned(Phase::Frame(true), 0),
-            heard,
-        },
+    let flawed = flaw | !matches!(heard, Heard::Accepted(_));
+    Reaction {
+        line: line.turned(Phase::Frame(flawed), 0),
+        heard,
     }
 }
 

@@ -1,7 +1,7 @@
 -- What is left of the bytes decides.
-use Rattle.std.proofs.Common.{◌≡◌, ◌∙◌, ◌+◌, ◌-◌, refl, sym, ap, length, arith, eqb→eq, rules}
+use Rattle.std.proofs.Common.{◌≡◌, ◌∙◌, ◌+◌, ◌-◌, length, arith, rules}
 use Rattle.line.proofs.Feeding.{as_fed, feed_on, feed_heard, fed_none, none_of, cut_of}
-use Rattle.line.proofs.InRows.{as_written, rest_is}
+use Rattle.line.proofs.InRows.{as_written}
 use Rattle.line.proofs.feed.Goals as goal
 
 pub returns-then-is_empty : goal.returns-then-is_empty

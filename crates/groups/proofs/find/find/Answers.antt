@@ -1,31 +1,28 @@
 -- The row that decides of the label's key is asked for its numbers.
+use Rattle.std.proofs.Common.{◌∙◌, ap, sym, arith}
+use Rattle.std.proofs.Math.Option.{some}
+use Rattle.characters.specs.Answers.{pick}
 use Rattle.groups.proofs.Search.{found_by, no_bytes, too_many}
-use Rattle.groups.specs.declared.Mode.TheVariants.{Historic, Standard, Business}
-use mathlib.Core.Path.{◌∙◌}
-use native.Mathlib.Omega.{arith}
 use Rattle.groups.proofs.find.find.Goals as goal
+use Rattle.groups.proofs.find.find.Goals.{then-n-eq0-via-then-n-eq0, then-n-eq0-via-else-n-eq0+then-n-gt9}
 
 pub returns-then-n-eq0 : goal.returns-then-n-eq0
-returns-then-n-eq0 c = no_bytes c.args.mode c.args.n c.args.text.now c.if-n-eq0.true
+returns-then-n-eq0 c =
+    elim c.then-n-eq0.branch [
+      | then-n-eq0-via-then-n-eq0 w ↦ no_bytes c.args.mode c.args.n c.args.text.now w.if-n-eq0.true
+      | then-n-eq0-via-else-n-eq0+then-n-gt9 w ↦ too_many c.args.mode c.args.n c.args.text.now c.requires w.if-n-gt9.true
+    ]
 
-pub returns-then-n-gt9 : goal.returns-then-n-gt9
-returns-then-n-gt9 c = too_many c.args.mode c.args.n c.args.text.now c.requires c.if-n-gt9.true
+pub returns-then-is_named : goal.returns-then-is_named
+unfolding pick
+returns-then-is_named c =
+    let named = sym c.is_named.ensures ∙ c.if-is_named.true in
+    found_by c.args.mode c.args.n c.args.text.now _ _ c.row_of-row.result (rw named (ap {B = _} some c.rule_in.ensures))
+    c.key_of-key.ensures c.tail_of.ensures (λ i. omega (arith, c.type_inv.text i)) c.requires c.if-n-eq0.false c.if-n-gt9.false c.row_of-row.ensures
 
-pub returns-in-Historic : goal.returns-in-Historic
-returns-in-Historic c = found_by Historic c.args.n c.args.text.now _ _ c.historic.result c.plain_rule.ensures
-    c.key_of-key.ensures c.tail_of-tail.ensures
-    (λ i. omega (arith, c.type_inv.text i)) c.requires c.if-n-eq0.false
-    c.if-n-gt9.false c.historic.ensures ∙ rw c.in-Historic.is
-
-pub returns-in-Standard : goal.returns-in-Standard
-returns-in-Standard c =
-    found_by Standard c.args.n c.args.text.now _ _ c.standard.result c.plain_rule-in-Standard.ensures
-    c.key_of-key.ensures c.tail_of-tail.ensures
-    (λ i. omega (arith, c.type_inv.text i)) c.requires c.if-n-eq0.false
-    c.if-n-gt9.false c.standard.ensures ∙ rw c.in-Standard.is
-
-pub returns-in-Business : goal.returns-in-Business
-returns-in-Business c = found_by Business c.args.n c.args.text.now _ _ c.business.result c.formed_rule.ensures
-    c.key_of-key.ensures c.tail_of-tail.ensures
-    (λ i. omega (arith, c.type_inv.text i)) c.requires c.if-n-eq0.false
-    c.if-n-gt9.false c.business.ensures ∙ rw c.in-Business.is
+pub returns-else-is_named : goal.returns-else-is_named
+unfolding pick
+returns-else-is_named c =
+    let named = sym c.is_named.ensures ∙ c.if-is_named.false in
+    found_by c.args.mode c.args.n c.args.text.now _ _ c.row_of-row.result (rw named)
+    c.key_of-key.ensures c.tail_of.ensures (λ i. omega (arith, c.type_inv.text i)) c.requires c.if-n-eq0.false c.if-n-gt9.false c.row_of-row.ensures

@@ -10,14 +10,15 @@ use mathlib.Core.List.{List}
 use mathlib.Core.Path.{◌≡◌, ap, subst, sym}
 use native.Mathlib.Omega.{arith}
 use Rattle.groups.proofs.fitting.reach.Goals as goal
+use Rattle.groups.proofs.fitting.reach.Goals.{then-n-least-via-then-n-least, then-n-least-via-else-n-least+then-most-n}
 
 pub returns-then-n-least : goal.returns-then-n-least
-returns-then-n-least c = sym (too_short c.args.form c.args.«data».now c.if-n-least.true)
-
-pub returns-then-most-n : goal.returns-then-most-n
-returns-then-most-n c =
+returns-then-n-least c =
     let h : length c.args.form.2 ≡ 21 = search rules in
-    sym (too_long c.args.form c.args.«data».now h c.requires c.if-most-n.true)
+    elim c.then-n-least.branch [
+      | then-n-least-via-then-n-least w ↦ sym (too_short c.args.form c.args.«data».now w.if-n-least.true)
+      | then-n-least-via-else-n-least+then-most-n w ↦ sym (too_long c.args.form c.args.«data».now h c.requires w.if-most-n.true)
+    ]
 
 pub slice_bounds-agreed-end : goal.slice_bounds-agreed-end
 slice_bounds-agreed-end c =

@@ -1,30 +1,38 @@
--- Each answer by the tests that led to it.
+-- Each arm is the definition at its character.
+use Rattle.std.proofs.Common.{◌∙◌, ⊎_elim, eqb, arith, eq-eqb, ne_eqb}
 use Rattle.characters.specs.Answers.{pick}
 use Rattle.groups.specs.Forms.{takes}
-use borrow.Author.Tests.{eq-eqb, ne_eqb}
-use mathlib.Core.Path.{◌∙◌}
+use Rattle.std.proofs.Math.Bool.{or-true}
 use Rattle.groups.proofs.fitting.taken.Goals as goal
 
-pub returns-then-picture-eq57 : goal.returns-then-picture-eq57
+pub returns-in-57 : goal.returns-in-57
 unfolding takes pick
-returns-then-picture-eq57 c = c.of_kind.ensures ∙ rw (eq-eqb _ _ c.if-picture-eq57.true)
+returns-in-57 c = c.of_kind.ensures ∙ rw c.in-57.is
 
-pub returns-then-picture-eq48 : goal.returns-then-picture-eq48
+pub returns-in-48 : goal.returns-in-48
 unfolding takes pick
-returns-then-picture-eq48 c =
-    c.of_kind-then-picture-eq48.ensures ∙ rw (ne_eqb _ _ c.if-picture-eq57.false, eq-eqb _ _ c.if-picture-eq48.true)
+returns-in-48 c = c.of_kind-in-48.ensures ∙ rw c.in-48.is
 
-pub returns-then-picture-eq42 : goal.returns-then-picture-eq42
+pub returns-in-42 : goal.returns-in-42
 unfolding takes pick
-returns-then-picture-eq42 c =
-    c.of_kind-then-picture-eq42.ensures ∙ rw (ne_eqb _ _ c.if-picture-eq57.false, ne_eqb _ _ c.if-picture-eq48.false, eq-eqb _ _ c.if-picture-eq42.true)
+returns-in-42 c = c.of_kind-in-42.ensures ∙ rw c.in-42.is
 
-pub returns-then-picture-eq44 : goal.returns-then-picture-eq44
+pub returns-in-44-matches : goal.returns-in-44-matches
 unfolding takes pick
-returns-then-picture-eq44 c =
-    rw (ne_eqb _ _ c.if-picture-eq57.false, ne_eqb _ _ c.if-picture-eq48.false, ne_eqb _ _ c.if-picture-eq42.false, eq-eqb _ _ c.if-picture-eq44.true)
+returns-in-44-matches c =
+    rw c.in-44.is (⊎_elim (λ e. rw (eq-eqb c.args.code 44 e)) (λ e. rw (eq-eqb c.args.code 46 e, or-true (eqb c.args.code 44))) c.in-44-matches.is)
 
-pub returns : goal.returns
+pub returns-in_default-matches : goal.returns-in_default-matches
 unfolding takes pick
-returns c =
-    rw (ne_eqb _ _ c.if-picture-eq57.false, ne_eqb _ _ c.if-picture-eq48.false, ne_eqb _ _ c.if-picture-eq42.false, ne_eqb _ _ c.if-picture-eq44.false)
+returns-in_default-matches c =
+    rw (c.in-44.is, ne_eqb c.args.code 44 (grind arith), ne_eqb c.args.code 46 (grind arith))
+
+pub returns-in_default : goal.returns-in_default
+unfolding takes pick
+returns-in_default c =
+    rw (
+      ne_eqb c.args.picture 57 (grind arith),
+      ne_eqb c.args.picture 48 (grind arith),
+      ne_eqb c.args.picture 42 (grind arith),
+      ne_eqb c.args.picture 44 (grind arith),
+    )

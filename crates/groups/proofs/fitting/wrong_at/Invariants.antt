@@ -1,12 +1,7 @@
 -- What is left decides: the place is that in what is left, and the characters gone over.
-use Prim.Native.Nat.{◌-◌}
 use Rattle.groups.specs.Inside.{RightUpTo}
 use Rattle.groups.specs.Kinds.{of_kind}
-use lib.ListN.{length}
 use Rattle.groups.proofs.fitting.wrong_at.Given as goal
 
 abbrev pub invariant-loop-i : goal.invariant-loop-i
 invariant-loop-i l = RightUpTo (of_kind l.kind) l.text l.i
-
-abbrev pub decreases-loop-i : goal.decreases-loop-i
-decreases-loop-i l = length l.text - l.i

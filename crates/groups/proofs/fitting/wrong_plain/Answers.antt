@@ -6,11 +6,11 @@ use mathlib.Core.Path.{◌∙◌, sym}
 use native.Mathlib.Omega.{arith}
 use Rattle.groups.proofs.fitting.wrong_plain.Goals as goal
 
-pub returns-then-data-width : goal.returns-then-data-width
-returns-then-data-width c = (
-  c.wrong_at.ensures ∙ sym (plain_wrong c.args.rule c.args.«data».now c.if-data-width.true),
+pub returns-then-data-rule : goal.returns-then-data-rule
+returns-then-data-rule c = (
+  c.wrong_at.ensures ∙ sym (plain_wrong c.args.rule c.args.«data».now c.if-data-rule.true),
   omega (arith, c.wrong_at.ensures, wrong_within (of_kind c.args.rule.kind) c.args.«data».now),
 )
 
-pub returns : goal.returns
-returns c = (sym (plain_unfit c.args.rule c.args.«data».now c.if-data-width.false), omega arith)
+pub returns-else-data-rule : goal.returns-else-data-rule
+returns-else-data-rule c = (sym (plain_unfit c.args.rule c.args.«data».now c.if-data-rule.false), omega arith)

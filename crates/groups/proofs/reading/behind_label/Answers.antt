@@ -1,11 +1,7 @@
 -- Each answer is the definition at the tests that led to it.
-use Rattle.groups.proofs.Views.{found_none, found_some}
 use Rattle.groups.proofs.Walks.{check_front}
-use Prim.Native.Nat.{ℕ}
 use Rattle.std.specs.Prelude.{Err}
 use Rattle.groups.proofs.Telling.{told_listed, told_nowhere}
-use Rattle.groups.specs.Table.{lookup, rows}
-use mathlib.Core.List.{List}
 use Rattle.groups.proofs.Laws.Places.{behind_checked, behind_listed, behind_open, behind_short, behind_unlisted}
 use Rattle.groups.specs.declared.Refusal.TheVariants.{CheckWrong, LabelUnknown, Misshapen}
 use lib.ListN.{length-take}
@@ -21,35 +17,32 @@ returns-then-n-lt2 c =
 pub returns-then-rest-end : goal.returns-then-rest-end
 returns-then-rest-end c =
     ap Err c.into-then-rest-end.ensures ∙ told_nowhere _ _ _ Misshapen tt tt (behind_open c.args.mode c.args.label.now c.args.rest.now c.if-n-lt2.false (λ
-    z. c.if-rest-end.true (z ∙ sym c.separator_of.ensures)))
+    z. c.if-rest-end.true (z ∙ sym c.separator.ensures)))
 
 pub slice_bounds-body-end : goal.slice_bounds-body-end
 slice_bounds-body-end c = simp length-take (omega arith)
 
-pub check_by-requires : goal.check_by-requires
-check_by-requires c = omega (arith, c.requires.0.small)
-
 pub returns-then-rest-n : goal.returns-then-rest-n
 returns-then-rest-n c =
     ap Err c.into-then-rest-n.ensures ∙ told_nowhere _ _ _ CheckWrong tt tt (behind_checked c.args.mode c.args.label.now c.args.rest.now c.if-n-lt2.false
-    (c.if-rest-end.false ∙ c.separator_of.ensures) (λ z. c.if-rest-n.true (z ∙ sym
+    (c.if-rest-end.false ∙ c.separator.ensures) (λ z. c.if-rest-n.true (z ∙ sym
     (c.check_by.ensures ∙ check_front c.args.mode c.args.label.now c.args.rest.now c.args.front c.requires.0 c.if-n-lt2.false))))
-
-pub find-found-requires : goal.find-found-requires
-find-found-requires c = c.requires.1.inside
 
 pub fields_of-requires : goal.fields_of-requires
 fields_of-requires c = c.requires.2
 
-pub returns-in-Listed : goal.returns-in-Listed
-returns-in-Listed c =
-    let listed = found_some _ (c.find-found.ensures ∙ ap (λ (l : List ℕ). lookup l (rows c.args.mode)) c.requires.1.begins) c.in-Listed.is in
-    c.fields_of.ensures ∙ told_listed c.args.mode _ c.args.label.now c.args.rest.now (behind_listed c.args.mode c.args.label.now c.args.rest.now _
-    c.if-n-lt2.false (c.if-rest-end.false ∙ c.separator_of.ensures) (c.if-rest-n.false ∙
-    c.check_by.ensures ∙ check_front c.args.mode c.args.label.now c.args.rest.now c.args.front c.requires.0 c.if-n-lt2.false) listed) listed
+pub find-requires : goal.find-requires
+find-requires c = c.requires.1.inside
 
-pub returns-in-Unlisted : goal.returns-in-Unlisted
-returns-in-Unlisted c =
-    ap Err c.into-in-Unlisted.ensures ∙ told_nowhere _ _ _ LabelUnknown tt tt (behind_unlisted c.args.mode c.args.label.now c.args.rest.now c.if-n-lt2.false
-    (c.if-rest-end.false ∙ c.separator_of.ensures) (c.if-rest-n.false ∙ c.check_by.ensures ∙ check_front c.args.mode c.args.label.now c.args.rest.now c.args.front c.requires.0 c.if-n-lt2.false)
-    (found_none (c.find-found.ensures ∙ ap (λ (l : List ℕ). lookup l (rows c.args.mode)) c.requires.1.begins) c.in-Unlisted.is))
+pub returns-in_default : goal.returns-in_default
+returns-in_default c =
+    let body = c.if-rest-n.false ∙ c.check_by.ensures ∙ check_front c.args.mode c.args.label.now c.args.rest.now c.args.front c.requires.0 c.if-n-lt2.false in
+    ap Err c.into-in_default.ensures ∙ told_nowhere _ _ _ LabelUnknown tt tt (behind_unlisted c.args.mode c.args.label.now c.args.rest.now c.if-n-lt2.false
+    (c.if-rest-end.false ∙ c.separator.ensures) body (rw c.requires.1.begins at (sym c.in_default.ensures)))
+
+pub returns : goal.returns
+returns c =
+    let listed = rw c.requires.1.begins at (sym c.in-Some.ensures) in
+    let body = c.if-rest-n.false ∙ c.check_by.ensures ∙ check_front c.args.mode c.args.label.now c.args.rest.now c.args.front c.requires.0 c.if-n-lt2.false in
+    c.fields_of.ensures ∙ told_listed c.args.mode _ c.args.label.now c.args.rest.now (behind_listed c.args.mode c.args.label.now c.args.rest.now _
+    c.if-n-lt2.false (c.if-rest-end.false ∙ c.separator.ensures) body listed) listed

@@ -19,13 +19,13 @@ returns-then-n-gt128 c =
 pub returns-then-n-at : goal.returns-then-n-at
 returns-then-n-at c =
     ap Err c.into-then-n-at.ensures ∙ told_nowhere _ _ _ Misshapen tt tt (read_uncut c.args.mode c.args.content.now _ (c.walk-walked.ensures.first_is ∙
-    ap (λ (s : ℕ). first_at s c.args.content.now) c.separator_of.ensures) c.if-n-gt128.false
+    ap (λ (s : ℕ). first_at s c.args.content.now) c.separator.ensures) c.if-n-gt128.false
     c.if-n-at.true)
 
 pub returns-then-at-lt1 : goal.returns-then-at-lt1
 returns-then-at-lt1 c =
     ap Err c.into-then-at-lt1.ensures ∙ told_nowhere _ _ _ Misshapen tt tt (read_unlabelled c.args.mode c.args.content.now _ (c.walk-walked.ensures.first_is ∙ ap
-    (λ (s : ℕ). first_at s c.args.content.now) c.separator_of.ensures) c.if-n-gt128.false
+    (λ (s : ℕ). first_at s c.args.content.now) c.separator.ensures) c.if-n-gt128.false
     c.if-n-at.false c.if-at-lt1.true)
 
 pub slice_bounds-behind_label-end : goal.slice_bounds-behind_label-end
@@ -35,7 +35,7 @@ pub behind_label-requires : goal.behind_label-requires
 behind_label-requires c = (
   rw (to_end (c.walk-walked.result.first + 1) c.args.content.now) (front_summed c.args.mode c.args.content.now _ _
       (subst (λ (s : ℕ). ContentWalk s c.args.content.now c.walk-walked.result.first c.walk-walked.result.sum)
-      c.separator_of.ensures c.walk-walked.ensures)),
+      c.separator.ensures c.walk-walked.ensures)),
   starts_with c.walk-walked.result.first c.args.content.now,
   simp length-take (omega arith),
 )
@@ -43,4 +43,4 @@ behind_label-requires c = (
 pub returns : goal.returns
 returns c = c.behind_label.ensures ∙ rw (to_end (c.walk-walked.result.first + 1) c.args.content.now) (told_cut
     c.args.mode c.args.content.now _ (c.walk-walked.ensures.first_is ∙ ap (λ (s : ℕ). first_at s c.args.content.now)
-    c.separator_of.ensures) c.if-n-gt128.false c.if-n-at.false c.if-at-lt1.false)
+    c.separator.ensures) c.if-n-gt128.false c.if-n-at.false c.if-at-lt1.false)

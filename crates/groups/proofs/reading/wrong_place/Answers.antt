@@ -10,7 +10,7 @@ returns-in-StampWrong c = rw c.in-StampWrong.is
 
 pub returns-in-KindWrong : goal.returns-in-KindWrong
 unfolding place_for pick
-returns-in-KindWrong c = rw (c.in-KindWrong.is, c.stamp_span.ensures.0, c.first_wrong.ensures.0)
+returns-in-KindWrong c = rw (c.in-KindWrong.is, c.stamp_span.ensures.0, c.first_wrong-before.ensures.0)
 
 pub returns-in_default : goal.returns-in_default
 returns-in_default c = placed_nowhere c.args.refusal _ _ c.in_default.not-StampWrong c.in_default.not-KindWrong

@@ -4,9 +4,9 @@ use Rattle.characters.specs.Answers.{every}
 use Rattle.groups.proofs.Walks.{to_end, two_digits_at, wrong_none}
 use Rattle.groups.specs.Inside.{wrong_at}
 use Rattle.groups.specs.Kinds.{of_kind}
-use Rattle.groups.specs.Stamps.{date_right}
+use Rattle.groups.specs.Stamps.{two_digits, date_right}
 use Rattle.groups.specs.declared.table.Kind.TheVariants.{Digits}
-use borrow.Author.Tests.{eq-eqb, ne_eqb}
+use borrow.Author.Tests.{eq-eqb, le-leb, ne_eqb}
 use lib.Dec.{eqb}
 use lib.ListN.{drop, length, length-drop, take}
 use mathlib.Core.Bool.{true}
@@ -38,40 +38,38 @@ two_digits-requires c =
     let digits = all_digits c.args.stamp.now c.requires c.wrong_at.ensures c.if-wrong_at-ne12.false in
     two_digits_at c.args.stamp.now c.requires digits 1 (omega arith) (omega arith)
 
+pub two_digits-day-requires : goal.two_digits-day-requires
+two_digits-day-requires c =
+    let digits = all_digits c.args.stamp.now c.requires c.wrong_at.ensures c.if-wrong_at-ne12.false in
+    two_digits_at c.args.stamp.now c.requires digits 5 (omega arith) (omega arith)
+
 pub two_digits-requires-2 : goal.two_digits-requires-2
 two_digits-requires-2 c =
     let digits = all_digits c.args.stamp.now c.requires c.wrong_at.ensures c.if-wrong_at-ne12.false in
-    two_digits_at c.args.stamp.now c.requires digits 5 (omega arith) (omega arith)
+    two_digits_at c.args.stamp.now c.requires digits 7 (omega arith) (omega arith)
 
 pub two_digits-requires-3 : goal.two_digits-requires-3
 two_digits-requires-3 c =
     let digits = all_digits c.args.stamp.now c.requires c.wrong_at.ensures c.if-wrong_at-ne12.false in
-    two_digits_at c.args.stamp.now c.requires digits 7 (omega arith) (omega arith)
+    two_digits_at c.args.stamp.now c.requires digits 9 (omega arith) (omega arith)
 
 pub two_digits-requires-4 : goal.two_digits-requires-4
 two_digits-requires-4 c =
-    let digits = all_digits c.args.stamp.now c.requires c.wrong_at.ensures c.if-wrong_at-ne12.false in
-    two_digits_at c.args.stamp.now c.requires digits 9 (omega arith) (omega arith)
-
-pub two_digits-requires-5 : goal.two_digits-requires-5
-two_digits-requires-5 c =
     let digits = all_digits c.args.stamp.now c.requires c.wrong_at.ensures c.if-wrong_at-ne12.false in
     two_digits_at c.args.stamp.now c.requires digits 11 (omega arith) (omega arith)
 
 pub returns : goal.returns
 unfolding date_right
 returns c = rw (
-  c.lies_within-5.ensures,
-  c.two_digits-5.ensures.0,
-  c.lies_within-4.ensures,
   c.two_digits-4.ensures.0,
-  c.lies_within-3.ensures,
   c.two_digits-3.ensures.0,
-  c.lies_within-2.ensures,
   c.two_digits-2.ensures.0,
-  c.lies_within.ensures,
+  c.two_digits-day.ensures.0,
   c.days_in-days.ensures,
   c.two_digits.ensures.0,
   c.two_digits-month.ensures.0,
   all_digits c.args.stamp.now c.requires c.wrong_at.ensures c.if-wrong_at-ne12.false,
+  le-leb 0 (two_digits c.args.stamp.now 7) (omega arith),
+  le-leb 0 (two_digits c.args.stamp.now 9) (omega arith),
+  le-leb 0 (two_digits c.args.stamp.now 11) (omega arith),
 )

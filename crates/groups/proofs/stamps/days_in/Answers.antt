@@ -1,21 +1,31 @@
--- Each answer by the tests that led to it.
+-- Each arm is the definition at its month.
+use Rattle.std.proofs.Common.{⊎_elim, arith, eq-eqb, ne_eqb}
 use Rattle.characters.specs.Answers.{pick}
 use Rattle.groups.specs.Stamps.{days_in}
-use borrow.Author.Tests.{eq-eqb, ne_eqb}
 use Rattle.groups.proofs.stamps.days_in.Goals as goal
 
-pub returns-then-year-eq0 : goal.returns-then-year-eq0
+pub returns-in-2 : goal.returns-in-2
 unfolding days_in pick
-returns-then-year-eq0 c = simp (eq-eqb _ _ c.if-month-eq2.true, eq-eqb _ _ c.if-year-eq0.true)
+returns-in-2 c = rw (c.in-2.is, eq-eqb _ _ c.if-year-eq0.true)
 
-pub returns-then-month-eq2 : goal.returns-then-month-eq2
+pub returns-in-2-2 : goal.returns-in-2-2
 unfolding days_in pick
-returns-then-month-eq2 c = simp (eq-eqb _ _ c.if-month-eq2.true, ne_eqb _ _ c.if-year-eq0.false)
+returns-in-2-2 c = rw (c.in-2.is, ne_eqb _ _ c.if-year-eq0.false)
 
-pub returns-then-month : goal.returns-then-month
+pub returns-in-4 : goal.returns-in-4
 unfolding days_in pick
-returns-then-month c = simp (ne_eqb _ _ c.if-month-eq2.false, c.if-month.true)
+returns-in-4 c =
+    ⊎_elim (λ e. rw e)
+    (⊎_elim (λ e. rw e) (⊎_elim (λ e. rw e) (λ e. rw e)))
+    c.in-4.is
 
-pub returns : goal.returns
+pub returns-in_default : goal.returns-in_default
 unfolding days_in pick
-returns c = simp (ne_eqb _ _ c.if-month-eq2.false, c.if-month.false)
+returns-in_default c =
+    rw (
+      ne_eqb c.args.month 2 (grind arith),
+      ne_eqb c.args.month 4 (grind arith),
+      ne_eqb c.args.month 6 (grind arith),
+      ne_eqb c.args.month 9 (grind arith),
+      ne_eqb c.args.month 11 (grind arith),
+    )

@@ -25,7 +25,7 @@ put-c-requires c = omega (
   laid_length c.put-a.ensures,
   c.put_all-b.ensures.upto,
   laid_length c.put_all-b.ensures,
-  length-map c.args.label.now wire_byte_of,
+  length-map c.args.group.label.now wire_byte_of,
 )
 
 pub put_body-d-requires : goal.put_body-d-requires
@@ -38,7 +38,7 @@ put_body-d-requires c = omega (
   laid_length c.put_all-b.ensures,
   c.put-c.ensures.upto,
   laid_length c.put-c.ensures,
-  length-map c.args.label.now wire_byte_of,
+  length-map c.args.group.label.now wire_byte_of,
 )
 
 pub put-e-requires : goal.put-e-requires
@@ -53,8 +53,8 @@ put-e-requires c = omega (
   laid_length c.put-c.ensures,
   c.put_body-d.ensures.upto,
   laid_length c.put_body-d.ensures,
-  length-map c.args.label.now wire_byte_of,
-  length-map (body c.args.mode (is_stamped c.args.mark) c.args.stamp.now c.args.«data».now) wire_byte_of,
+  length-map c.args.group.label.now wire_byte_of,
+  length-map (body c.args.mode (is_stamped c.args.mark) c.args.group.stamp.now c.args.group.«data».now) wire_byte_of,
 )
 
 pub put-f-requires : goal.put-f-requires
@@ -71,8 +71,8 @@ put-f-requires c = omega (
   laid_length c.put_body-d.ensures,
   c.put-e.ensures.upto,
   laid_length c.put-e.ensures,
-  length-map c.args.label.now wire_byte_of,
-  length-map (body c.args.mode (is_stamped c.args.mark) c.args.stamp.now c.args.«data».now) wire_byte_of,
+  length-map c.args.group.label.now wire_byte_of,
+  length-map (body c.args.mode (is_stamped c.args.mark) c.args.group.stamp.now c.args.group.«data».now) wire_byte_of,
 )
 
 pub put-requires : goal.put-requires
@@ -91,15 +91,15 @@ put-requires c = omega (
   laid_length c.put-e.ensures,
   c.put-f.ensures.upto,
   laid_length c.put-f.ensures,
-  length-map c.args.label.now wire_byte_of,
-  length-map (body c.args.mode (is_stamped c.args.mark) c.args.stamp.now c.args.«data».now) wire_byte_of,
+  length-map c.args.group.label.now wire_byte_of,
+  length-map (body c.args.mode (is_stamped c.args.mark) c.args.group.stamp.now c.args.group.«data».now) wire_byte_of,
 )
 
 pub returns : goal.returns
 returns c = laid_as (laid_then c.put-a.ensures (laid_then c.put_all-b.ensures (laid_then
     c.put-c.ensures (laid_then c.put_body-d.ensures (laid_then c.put-e.ensures
     (laid_then c.put-f.ensures c.put.ensures)))))) (group_pieces c.args.mode
-    c.args.label.now (body c.args.mode (is_stamped c.args.mark) c.args.stamp.now c.args.«data».now) _ _
-    c.separator_of-separator.ensures (c.check_from-check.ensures ∙ ap (λ (t : ℕ). check_from c.args.mode
-    c.args.label.now t) c.sum_of_body.ensures.0 ∙ check_from_lem c.args.mode c.args.label.now (body
-    c.args.mode (is_stamped c.args.mark) c.args.stamp.now c.args.«data».now)))
+    c.args.group.label.now (body c.args.mode (is_stamped c.args.mark) c.args.group.stamp.now c.args.group.«data».now) _ _
+    c.separator-separator.ensures (c.check_from-check.ensures ∙ ap (λ (t : ℕ). check_from c.args.mode
+    c.args.group.label.now t) c.sum_of_body.ensures ∙ check_from_lem c.args.mode c.args.group.label.now (body
+    c.args.mode (is_stamped c.args.mark) c.args.group.stamp.now c.args.group.«data».now)))

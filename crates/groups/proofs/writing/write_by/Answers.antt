@@ -11,12 +11,12 @@ use Rattle.groups.proofs.writing.write_by.Goals as goal
 pub write_right-requires : goal.write_right-requires
 write_right-requires c = (
   c.requires,
-  fit_right (rule_of c.args.rule) c.args.stamp.now c.args.«data».now _ (sym c.in_ok-fit.ensures),
+  fit_right (rule_of c.args.rule) c.args.group.stamp.now c.args.group.«data».now _ (sym c.in_ok-fit.ensures),
 )
 
 pub returns-in_err-fit : goal.returns-in_err-fit
 returns-in_err-fit c =
     let p = err_from_is_err_and c.from_residual.result c.from_residual.ensures.1 in
-    let g = group_of c.args.label.now c.args.stamp.now c.args.«data».now in
+    let g = group_of c.args.group.label.now c.args.group.stamp.now c.args.group.«data».now in
     rw (p.1, p.2) (wrote_nothing c.args.buffer.now _ (write_wrong c.args.mode g (length c.args.buffer.now) (rule_of c.args.rule) _
-    (λ a. fit_wrong (rule_of c.args.rule) c.args.stamp.now c.args.«data».now _ a _ (sym c.in_err-fit.ensures))))
+    (λ a. fit_wrong (rule_of c.args.rule) c.args.group.stamp.now c.args.group.«data».now _ a _ (sym c.in_err-fit.ensures))))

@@ -1,6 +1,5 @@
 -- Eight plain bytes more.
-use Rattle.std.proofs.Common.{◌≡◌, ◌+◌, ◌-◌, ◌≤◌, ◌∙◌, sym, ap, map, take, drop, length, rules, arith}
-use Rattle.characters.specs.Wire.{character_of}
+use Rattle.std.proofs.Common.{◌≡◌, ◌+◌, ◌-◌, ◌∙◌, sym, rules, arith}
 use Rattle.line.proofs.InRows.{lays_eight, cut_eight}
 use Rattle.line.proofs.rows.add_eights.Goals as goal
 

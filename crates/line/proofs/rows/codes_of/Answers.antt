@@ -1,5 +1,5 @@
 -- One by one.
-use Rattle.std.proofs.Common.{◌≡◌, sym, ◌∙◌, length, map, rules, arith, ext_get_or}
+use Rattle.std.proofs.Common.{◌≡◌, sym, ◌∙◌, length, rules, arith, ext_get_or}
 use Rattle.std.proofs.lemmas.List.{get_or-map, length-map}
 use Rattle.characters.specs.Wire.{character_of}
 use Rattle.line.proofs.rows.codes_of.Goals as goal

@@ -1,5 +1,5 @@
 -- Noise flaws the frame, and an LF behind it opens a group.
-use Rattle.std.proofs.Common.{◌∙◌, arith, rules, sym}
+use Rattle.std.proofs.Common.{arith, rules}
 use Rattle.line.proofs.InRows.{frame_opens, lf_opens, noise_passes}
 use Rattle.line.proofs.rows.pass_frame.Goals as goal
 

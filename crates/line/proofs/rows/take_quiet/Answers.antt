@@ -1,5 +1,4 @@
 -- Outside, what is in front of an STX is passed over.
-use Rattle.std.proofs.Common.{refl, ap}
 use Rattle.line.proofs.InRows.{outside_passes, runs_passed}
 use Rattle.line.proofs.rows.take_quiet.Goals as goal
 

@@ -1,5 +1,4 @@
 -- CR in a group is that of the rules.
-use Rattle.std.proofs.Common.{◌≡◌}
 use Rattle.line.proofs.Laws.Written.{cr_symbol}
 use Rattle.line.proofs.step.move_of.Goals as goal
 
