@@ -27,7 +27,7 @@ fn put_all(text: &mut Text, bytes: &[u8])
     text.try_extend_from_slice(bytes).unwrap();
 }
 
-// The digits of a number.
+// The digits of a number. Kept by hand: `write!` does not promise which bytes it lays, and the clause does.
 #[tactic(auto, unfolding(crate::specs::Listing::digits, characters::specs::Answers::pick))]
 fn put_number(text: &mut Text, number: u8)
     requires { array_vec_len text.old + 3 ≤ LONGEST }
