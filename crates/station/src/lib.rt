@@ -7,6 +7,9 @@
 //  contents  the characters of the group
 //  inboxes   the waiting bytes
 //
+// Four arrays, and numbers by their places in them, since the C interface lends them so, some of them to be read only. `Row`
+// has a line's numbers by name.
+//
 // Zeros are the station with all lines closed. A contract speaks of the memory before and after: `behind`
 // gathers the four arrays, as they are when a call begins (`old`), and when it has returned (`new`).
 #![tactic(auto)]
