@@ -1,5 +1,5 @@
 -- What is laid and what is still to be laid are the whole text.
-use Rattle.std.specs.Prelude.{◌≡◌, map, ◌+◌, ◌-◌, ◌≤◌, length, drop}
+use Rattle.std.proofs.Common.{◌≡◌, map, ◌+◌, ◌-◌, ◌≤◌, length, drop}
 use Rattle.std.proofs.lemmas.List.Edits.{sets}
 use Rattle.characters.specs.Wire.{wire_byte_of}
 use Rattle.groups.proofs.writing.Pen.put.Given as goal
