@@ -1,13 +1,7 @@
 -- Data between two texts: where a picture takes, in each place, all that lies between the characters of the texts, it takes
 -- data that lie between the texts.
-use mathlib.Core.Path.{◌≡◌, refl, ap, subst, ◌∙◌}
-use mathlib.Core.Bool.{Bool, true, false, ◌&&◌}
-use mathlib.Core.List.{List, [], ◌∷◌}
-use Prim.Native.Nat.{ℕ, zero, suc, ◌+◌, ◌-◌, ◌<◌, ◌≤◌}
-use native.Mathlib.Omega.{arith}
-use lib.Dec.{T, eqb, leb, eqb→eq, leb→le, le→leb}
-use lib.ListN.{length, get_or, take, drop, length-drop}
-use mir.Facts.{and_yes, yes_and}
+use Rattle.std.proofs.Common.{◌≡◌, refl, ap, subst, ◌∙◌, Bool, true, false, ◌&&◌, List, [], ◌∷◌, ℕ, zero, suc, ◌+◌, ◌-◌, ◌<◌, ◌≤◌, arith, T, eqb, leb, eqb→eq, leb→le, le→leb, length, get_or, take, drop, length-drop}
+use Rattle.std.proofs.Math.Facts.{and_yes, yes_and}
 use Rattle.characters.specs.Answers.{pick, by_pick, from_true, is_true}
 use Rattle.groups.specs.Forms.{Form, takes, last_of, matches, has_length, fits, some_fits}
 use Rattle.groups.specs.Formats.{form_of, forms}

@@ -1,6 +1,6 @@
 -- Document 01's figures P1 to P12 ("Figures to hold it against"), one table, one statement; and the same for document 02's
 -- requests.
-use Rattle.std.specs.Prelude.{◌≡◌, refl, Bool, true, false, List, [], ◌∷◌, ℕ}
+use Rattle.std.proofs.Common.{◌≡◌, refl, Bool, true, false, List, [], ◌∷◌, ℕ}
 use Prim.Native.String.{String}
 use Rattle.characters.specs.Answers.{need, found, pick}
 use Rattle.characters.specs.Wire.{is_sound}

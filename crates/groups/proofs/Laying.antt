@@ -1,16 +1,10 @@
 -- Laying bytes into a buffer, piece by piece, and the tests of the writer.
-use mathlib.Core.Path.{◌≡◌, refl, sym, ap, ◌∙◌, subst}
-use mathlib.Core.Bool.{Bool, true, false}
-use mathlib.Core.Option.{none, some}
-use mathlib.Core.List.{List, [], ◌∷◌, ◌++◌, append_assoc, map}
-use Prim.Native.Nat.{ℕ, suc, ◌+◌, ◌<◌, ◌≤◌}
-use native.Mathlib.Numerals.{add-one}
-use native.Mathlib.Omega.{arith}
-use lib.Dec.{T}
-use Rattle.std.specs.Prelude.{Result, Ok, Err}
-use lib.ListN.{length, drop, get_or, set, length-append, length-map, drop_of_length-le}
-use lib.Seq.{sets, sets-eq, length-sets, drop-cons}
-use borrow.Author.Tests.{le-leb, lt-leb}
+use Rattle.std.proofs.Common.{◌≡◌, refl, sym, ap, ◌∙◌, subst, Bool, true, false, List, [], ◌∷◌, ◌++◌, append_assoc, map, ℕ, suc, ◌+◌, ◌<◌, ◌≤◌, add-one, arith, T, Result, Ok, Err, length, drop, get_or, set, length-append, drop_of_length-le, drop-cons, le-leb}
+use Rattle.std.proofs.lemmas.Bool.{lt-leb}
+use Rattle.std.proofs.lemmas.List.{length-map, map-append}
+use Rattle.std.proofs.lemmas.List.Edits.{sets, sets-eq}
+use Rattle.std.proofs.Math.Option.{none, some}
+use Rattle.std.proofs.Math.Seq.{length-sets}
 use Rattle.characters.specs.Answers.{Answer, refused, given, need, found, pick}
 use Rattle.characters.specs.Wire.{wire_byte_of, LF, CR}
 use Rattle.groups.specs.Modes.{mode_of, known_mode, separator}
@@ -55,14 +49,14 @@ sets_on b at i s h =
 pub sets_over : (b : List ℕ) (at i : ℕ) (s : List ℕ) → length s ≤ i → sets b (at + i) (map wire_byte_of (drop i s)) ≡ b
 sets_over b at i s h = rw (drop_of_length-le s h)
 
-map_append : (f : ℕ → ℕ) (a b : List ℕ) → map f (a ++ b) ≡ map f a ++ map f b
-map_append f [] b = refl
-map_append f (x ∷ a) b = ap (λ (l : List ℕ). f x ∷ l) (map_append f a b)
-
 -- ---- Pieces laid one behind the other
 
 pub laid_length : {b₀ : List ℕ} {at : ℕ} {w : List ℕ} {n : ℕ} {b : List ℕ} → Laid b₀ at w n b → length b ≡ length b₀
 laid_length {b₀} {at} {w} h = ap length h.bytes ∙ length-sets b₀ at w
+
+pub laid_upto : (t : List ℕ) {b₀ : List ℕ} {at n : ℕ} {b : List ℕ} → Laid b₀ at (map wire_byte_of t) n b
+    → n ≡ at + length t
+laid_upto t {at = at} h = h.upto ∙ ap (λ (k : ℕ). at + k) (length-map t wire_byte_of)
 
 pub laid_then : {b₀ b b' : List ℕ} {at n n' : ℕ} {v w : List ℕ} → Laid b₀ at v n b → Laid b n w n' b'
     → Laid b₀ at (v ++ w) n' b'
@@ -75,16 +69,20 @@ laid_then {b₀ = b₀} {at = at} {v = v} {w = w} h k =
 pub laid_as : {b₀ b : List ℕ} {at n : ℕ} {v w : List ℕ} → Laid b₀ at v n b → v ≡ w → Laid b₀ at w n b
 laid_as {b₀ = b₀} {b = b} {at = at} {n = n} h e = subst (λ (w : List ℕ). Laid b₀ at w n b) e h
 
+-- in an equal buffer
+pub laid_there : {b₀ b b' : List ℕ} {at n : ℕ} {w : List ℕ} → b' ≡ b → Laid b₀ at w n b → Laid b₀ at w n b'
+laid_there {b₀ = b₀} {at = at} {n = n} {w = w} e h = subst (λ (b : List ℕ). Laid b₀ at w n b) (sym e) h
+
 -- the group, piece by piece
 pub group_pieces : (m : Mode) (l b : List ℕ) (x k : ℕ) → x ≡ separator m → k ≡ check m l b
-    → (wire_byte_of LF ∷ []) ++ (map wire_byte_of l ++ ((wire_byte_of x ∷ []) ++ (map wire_byte_of b ++ ((wire_byte_of x ∷ []) ++ ((wire_byte_of k ∷ []) ++ (wire_byte_of CR ∷ [])))))) ≡ on_the_wire (content m l b)
+    → (wire_byte_of LF ∷ []) ++ (map wire_byte_of l ++ ((wire_byte_of x ∷ []) ++ (map wire_byte_of b ++ (wire_byte_of x ∷ wire_byte_of k ∷ wire_byte_of CR ∷ [])))) ≡ on_the_wire (content m l b)
 unfolding on_the_wire content
-group_pieces m l b x k e f = rw (e, f) (simp (map_append, append_assoc))
+group_pieces m l b x k e f = rw (e, f) (simp (map-append, append_assoc))
 
 pub body_pieces : (m : Mode) (s d : List ℕ) (b : Bool) (x : ℕ) → b ≡ true → x ≡ separator m
     → map wire_byte_of s ++ ((wire_byte_of x ∷ []) ++ map wire_byte_of d) ≡ map wire_byte_of (body m b s d)
 unfolding body
-body_pieces m s d b x e f = rw (e, f) (simp map_append)
+body_pieces m s d b x e f = rw (e, f) (simp map-append)
 
 pub body_long : (m : Mode) (s d : List ℕ) (b : Bool) → b ≡ true → length (body m b s d) ≡ length s + 1 + length d
 unfolding body
@@ -107,9 +105,8 @@ total_stamped m s d b e = rw (body_stamped m s d b e) (omega (arith, total_appen
 pub listed_short : (m : Mode) (l : List ℕ) (r : Rule) → lookup l (rows m) ≡ some r → ShortRow r l
 listed_short m l r e = (listed_right m l r e).short
 
-pub record Short (l s d : List ℕ) : Type 0 where
+pub record Short (l d : List ℕ) : Type 0 where
   pub short_label : length l ≤ 128
-  pub short_stamp : length s ≤ 128
   pub short_data : length d ≤ 128
 
 span_room : (b : Bool) (k : Mark) (s : List ℕ) → T (stamp_as b k s) → stamp_span (length s) ≡ stamp_room b
@@ -117,17 +114,11 @@ unfolding stamp_span pick
 span_room false k s t = rw (stamp_length false k s t)
 span_room true k s t = rw (stamp_length true k s t)
 
-stamp_short : (b : Bool) (n : ℕ) → n ≡ pick b 13 0 → n ≤ 13
-unfolding pick
-stamp_short false n e = omega arith
-stamp_short true n e = omega arith
-
 module _ (m : Mode) (r : Rule) (l s d : List ℕ) (row : ShortRow r l) (f : RightFields r s d) where
-  pub all_short : Short l s d
+  pub all_short : Short l d
   all_short =
       record {
         short_label = omega arith;
-        short_stamp = omega (arith, stamp_short (is_stamped r.mark) (length s) (stamp_length (is_stamped r.mark) r.mark s f.stamp_is_right));
         short_data = omega (arith, width_most r (length d) f.width_is_right);
       }
 

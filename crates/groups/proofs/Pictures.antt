@@ -1,19 +1,11 @@
 -- Pictures as the code goes over them: at a place, what is left decides; the forms of a rule one after the other; and data of
 -- one kind and one width.
-use mathlib.Core.Path.{◌≡◌, refl}
-use mathlib.Core.Bool.{Bool, true, false, ◌&&◌}
-use mathlib.Core.List.{List, [], ◌∷◌}
-use Rattle.std.specs.Prelude.{cond, ◌==◌}
+use Rattle.std.proofs.Common.{◌≡◌, refl, Bool, true, false, List, [], ◌∷◌, cond, ◌==◌, Less, Equal, Greater, ◌∙◌, ℕ, suc, ◌+◌, ◌-◌, ◌<◌, ◌≤◌, max, add-one, arith, eqb, leb, length, get_or, drop, drop_of_length-le, length-drop, replicate, drop-cons, drop-drop, eq-eqb, ne_eqb, le-leb, ltb, ltb→lt, nltb→le}
+use Rattle.std.proofs.lemmas.Bool.{lt-leb}
+use Rattle.std.proofs.lemmas.List.{length-replicate}
 use Rattle.std.specs.Ordering.{is_lt, nat_cmp, ord_max}
-use Rattle.std.proofs.Common.{Less, Equal, Greater, ◌∙◌}
-use Rattle.std.proofs.Math.Dec.{ltb, ltb→lt, nltb→le}
-use Prim.Native.Nat.{ℕ, suc, ◌+◌, ◌-◌, ◌<◌, ◌≤◌, max}
-use native.Mathlib.Numerals.{add-one}
-use native.Mathlib.Omega.{arith}
-use lib.Dec.{eqb, leb, not_T}
-use lib.ListN.{length, get_or, drop, drop_of_length-le, length-drop, replicate, length-replicate}
-use lib.Seq.{drop-cons, drop-drop}
-use borrow.Author.Tests.{eq-eqb, ne_eqb, le-leb, lt-leb}
+use Rattle.std.proofs.Math.Dec.{not_T}
+use Rattle.std.proofs.Math.Bool.{and-false}
 use Rattle.characters.specs.Answers.{every, pick, is_true, is_false, from_true}
 use Rattle.groups.specs.Kinds.{of_kind}
 use Rattle.groups.specs.Forms.{Form, picture_of, takes, last_of, has_length, fits, some_fits}
@@ -56,10 +48,6 @@ module _ (fs : List Form) (d : List ℕ) where
 
 -- ---- A stored form
 
-and_no : (b : Bool) → (b && false) ≡ false
-and_no true = refl
-and_no false = refl
-
 module _ (f : StoredForm) (d : List ℕ) where
   pub too_short : length d < f.0 → reach (form_in f) d ≡ 0
   unfolding form_in reach has_length pick
@@ -70,7 +58,7 @@ module _ (f : StoredForm) (d : List ℕ) where
 
   pub too_long : length f.2 ≡ 21 → f.1 ≤ 21 → f.1 < length d → reach (form_in f) d ≡ 0
   unfolding form_in reach has_length pick
-  too_long l m h = rw (picture_length l m, lt-leb _ _ h, and_no (leb f.0 (length d)))
+  too_long l m h = rw (picture_length l m, lt-leb _ _ h, and-false (leb f.0 (length d)))
 
   pub reached : length f.2 ≡ 21 → f.1 ≤ 21 → f.0 ≤ length d → length d ≤ f.1
       → reach (form_in f) d ≡ suc (agreed (drop (21 - length d) f.2) d)

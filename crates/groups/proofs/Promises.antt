@@ -1,7 +1,7 @@
 -- What the crate promises of judging and writing groups: only the statements need to be read.
-use Rattle.std.specs.Prelude.{◌≡◌, refl, ◌↔◌, not, ◌||◌, ℕ, ◌+◌, ◌^◌, ◌≤◌, ◌<◌, T, eqb, ltb, length, take, get_or, Ok, Err}
+use Rattle.std.proofs.Common.{◌≡◌, refl, ◌↔◌, not, ◌||◌, ℕ, ◌+◌, ◌^◌, ◌≤◌, ◌<◌, T, eqb, ltb, length, take, get_or, Ok, Err, List, [], ◌∷◌, ◌++◌, map}
 use Rattle.std.proofs.Math.Option.{none, some}
-use mathlib.Core.List.{List, [], ◌∷◌, ◌++◌, map, Memᴰ}
+use mathlib.Core.List.{Memᴰ}
 use Rattle.characters.specs.Answers.{given, every, first_of}
 use Rattle.characters.specs.Wire.{is_sound, wire_byte_of, HT}
 use Rattle.groups.specs.Modes.{mode_of, is_mode, separator}

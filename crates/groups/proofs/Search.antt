@@ -1,23 +1,15 @@
 -- Looking a label up: rows in the order of their keys, and the row that is left.
-use mathlib.Core.Path.{◌≡◌, refl, sym, ap, subst, ◌∙◌}
-use mathlib.Core.Bool.{Bool, true, false, ◌&&◌}
-use mathlib.Core.Option
-use mathlib.Core.Option.{Option, none, some}
-use mathlib.Core.List.{List, [], ◌∷◌, map}
-use Prim.Native.Nat.{ℕ, zero, suc, ◌-◌, ◌<◌, ◌≤◌}
-use native.Mathlib.Nat.{not-suc-le-zero, le_of_suc-le-suc}
-use native.Mathlib.Omega.{arith}
-use lib.Dec.{T, eqb, ltb, leb, eqb→eq, leb→le}
-use borrow.Author.Tests.{ltb-true, lt-ltb, eq-eqb}
-use mir.Facts.{and_yes, yes_and}
-use lib.ListN.{length, get_or, take, drop, length-take}
+use Rattle.std.proofs.Common.{◌≡◌, refl, sym, ap, subst, ◌∙◌, Bool, true, false, ◌&&◌, List, [], ◌∷◌, map, ℕ, zero, suc, ◌-◌, ◌<◌, ◌≤◌, not-suc-le-zero, le_of_suc-le-suc, arith, T, eqb, ltb, leb, eqb→eq, leb→le, ltb-true, lt-ltb, eq-eqb, length, get_or, take, drop, length-take}
+use Rattle.std.proofs.Math.Option
+use Rattle.std.proofs.Math.Option.{Option, none, some}
+use Rattle.std.proofs.Math.Facts.{and_yes, yes_and}
 use Rattle.characters.specs.Answers.{every, is_true, from_true, pick}
 use Rattle.groups.specs.Formats.{Rule}
 use Rattle.groups.specs.Table.{historic_rows, standard_rows, business_rows, rows, same, lookup}
 use Rattle.groups.specs.Order.{ordered}
 use Rattle.groups.specs.Packed.{packed, key_of, tail_of, label_in, rule_in, entry_in}
 use Rattle.groups.specs.Packed.{is_named, number_in, rising, Nearest, Short, rule_by, Decides}
-use Rattle.groups.proofs.Laws.Tests.{same→eq, same_refl}
+use Rattle.groups.proofs.Laws.Tests.{same→eq, same_refl, one_test}
 use Rattle.groups.proofs.Laws.Packed.{Bytes}
 use Rattle.groups.proofs.Keys.{alike, bytes_take}
 use Rattle.groups.proofs.Laws.Order.{first, range, lookup_first, nobody, no_test}
@@ -84,12 +76,6 @@ every_byte [] t i = omega arith
 every_byte (x ∷ l) t zero = ltb-true x 256 (is_true (and_yes (ltb x 256) (every (λ x. ltb x 256) l) t).0)
 every_byte (x ∷ l) t (suc i) = every_byte l (and_yes (ltb x 256) (every (λ x. ltb x 256) l) t).1 i
 
-both_ways : (a b : Bool) → (T a → T b) → (T b → T a) → a ≡ b
-both_ways true true f g = refl
-both_ways true false f g = absurd (f tt)
-both_ways false true f g = absurd (g tt)
-both_ways false false f g = refl
-
 named_right : (l a : List ℕ) → Short l → Bytes a → length a ≤ 9 → key_of l ≡ key_of a → tail_of l ≡ tail_of a → l ≡ a
 named_right l a s b h k t =
     alike 8 l a s.bytes b (omega (arith, s.bytes 8, b 8)) s.at_most_nine k (omega (arith, s.bytes 8, b 8))
@@ -102,7 +88,7 @@ named l r s t =
     let (k, n) = and_yes (eqb r.0 (key_of (label_in r))) (eqb r.1 (tail_of (label_in r))) v in
     let key = eqb→eq r.0 (key_of (label_in r)) k in
     let tail = eqb→eq r.1 (tail_of (label_in r)) n in
-    both_ways (is_named (key_of l) (tail_of l) r) (same l (label_in r))
+    one_test (is_named (key_of l) (tail_of l) r) (same l (label_in r))
     (λ y. let (p, q) = and_yes (eqb (key_of l) r.0) (eqb (tail_of l) r.1) y in
     subst (λ (a : List ℕ). T (same l a))
     (named_right l (label_in r) s (every_byte (label_in r) bytes) (leb→le _ 9 few) (eqb→eq _ _ p ∙ key) (eqb→eq _ _ q ∙ tail))

@@ -1,11 +1,6 @@
 -- From the code's own types back to the definitions.
-use mathlib.Core.Path.{◌≡◌, refl, ap}
-use mathlib.Core.Bool.{Bool, true, false}
-use mathlib.Core.Option.{Option, none, some}
-use mathlib.Core.List.{List}
-use Rattle.std.specs.Prelude.{Ok, Err, is_ok}
-use lib.ListN.{length}
-use Prim.Native.Nat.{ℕ}
+use Rattle.std.proofs.Common.{◌≡◌, refl, ap, Bool, true, false, List, Ok, Err, is_ok, length, ℕ}
+use Rattle.std.proofs.Math.Option.{Option, none, some}
 use Rattle.characters.specs.Answers.{Answer, refused, given, need, found}
 use Rattle.groups.specs.Formats.{Rule}
 use Rattle.groups.specs.Fields.{checked, width_right, kind_right}

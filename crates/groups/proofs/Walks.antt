@@ -1,20 +1,12 @@
 -- The definitions over lists, as a loop from the front uses them: at a place, what is left decides.
-use mathlib.Core.Path.{◌≡◌, refl, sym, ap, ◌∙◌}
-use mathlib.Core.Bool.{Bool, true, false, ◌&&◌}
-use mathlib.Core.List.{List, [], ◌∷◌, ◌++◌}
-use Prim.Native.Nat.{ℕ, zero, suc, ◌+◌, ◌-◌, ◌%◌, ◌<◌, ◌≤◌, min}
-use native.Mathlib.Numerals.{add-one, unary_clauses}
-use native.Mathlib.Omega.{arith}
-use lib.Dec.{T, eqb, leb, leb→le}
-use lib.ListN.{length, get_or, take, drop, drop_of_length-le, length-drop, length-take}
-use lib.Seq.{drop-cons, get_or-drop, take-add, take_all}
-use mir.Facts.{and_yes}
-use borrow.Author.Tests.{eq-eqb, ne_eqb, eqb-true, eqb-false}
+use Rattle.std.proofs.Common.{◌≡◌, refl, sym, ap, ◌∙◌, Bool, true, false, ◌&&◌, List, [], ◌∷◌, ◌++◌, ℕ, zero, suc, ◌+◌, ◌-◌, ◌%◌, ◌<◌, ◌≤◌, min, add-one, arith, T, eqb, leb, leb→le, length, get_or, take, drop, drop_of_length-le, length-drop, length-take, drop-cons, get_or-drop, take-add, take_all, eq-eqb, ne_eqb, eqb-true}
+use Rattle.std.proofs.lemmas.Bool.{eqb-false}
+use Rattle.std.proofs.Math.Numerals.{unary_clauses}
+use Rattle.std.proofs.Math.Facts.{and_yes}
 use Rattle.characters.specs.Answers.{every, every_at, from_true, is_true, pick, by_pick}
 use Rattle.characters.specs.Passing.{Pass}
 use Rattle.groups.specs.Kinds.{of_kind}
 use Rattle.groups.specs.Modes.{separator, counted_at_end}
-use Rattle.groups.specs.Table.{same}
 use Rattle.groups.specs.Groups.{total, check}
 use Rattle.groups.specs.Conditions.{first_at}
 use Rattle.groups.specs.Inside.{wrong_at, check_from, RightUpTo, ContentWalk, FrontSum, StartsWith}
@@ -167,25 +159,3 @@ total_between c a e h =
     let split : e ≡ a + (e - a) = omega arith in
     sym (total_append (take a c) (take (e - a) (drop a c))) ∙ ap total (sym (take-add a (e - a) c))
     ∙ ap (λ (n : ℕ). total (take n c)) (sym split)
-
-and_false : (b : Bool) → (b && false) ≡ false
-and_false true = refl
-and_false false = refl
-
--- texts of two lengths differ
-pub same_lengths : (a b : List ℕ) → (length a ≡ length b → ⊥) → same a b ≡ false
-same_lengths [] [] h = absurd (h refl)
-same_lengths [] (y ∷ ys) h = refl
-same_lengths (x ∷ xs) [] h = refl
-same_lengths (x ∷ xs) (y ∷ ys) h = ap (λ (t : Bool). eqb x y && t) (same_lengths xs ys (λ e. h (ap suc e))) ∙ and_false (eqb x y)
-
-module _ (a b : List ℕ) (i : ℕ) where
-  pub same_differ : i < length a → i < length b → (get_or a i 0 ≡ get_or b i 0 → ⊥) → same (drop i a) (drop i b) ≡ false
-  same_differ h k e = rw (drop-cons a i 0 h, drop-cons b i 0 k, ne_eqb _ _ e)
-
-  pub same_on : i < length a → i < length b → get_or a i 0 ≡ get_or b i 0
-      → same (drop i a) (drop i b) ≡ same (drop (i + 1) a) (drop (i + 1) b)
-  same_on h k e = rw (add-one i, drop-cons a i 0 h, drop-cons b i 0 k, eq-eqb _ _ e)
-
-  pub same_over : length a ≤ i → length a ≡ length b → same (drop i a) (drop i b) ≡ true
-  same_over h e = rw (drop_of_length-le a h, drop_of_length-le b {i = i} (omega arith))

@@ -1,16 +1,7 @@
 -- What document 02 says of rows and of mode 2 (M-100): data that fit have a length of the row; data of one field are those of
 -- one kind and one width; and no row of mode 2 is stamped.
-use Rattle.std.specs.Prelude.{◌≡◌, refl, ◌↔◌, Bool, true, not, ◌&&◌, ℕ, suc, ◌≤◌, length, take, drop}
-use Rattle.std.proofs.Common.{sym, ◌∙◌, le→leb, take_all, lt-ltb}
-use Rattle.std.proofs.Math.Path.{subst}
-use Rattle.std.proofs.Math.Logic.{⊎_elim}
-use Rattle.std.proofs.Math.Bool.{false}
+use Rattle.std.proofs.Common.{◌≡◌, refl, ◌↔◌, Bool, true, not, ◌&&◌, ℕ, suc, ◌≤◌, length, take, drop, sym, ◌∙◌, le→leb, take_all, lt-ltb, List, [], ◌∷◌, arith, subst, ⊎_elim, false, T, eqb, leb, eqb→eq, leb→le, length-drop, length-take-le}
 use Rattle.std.proofs.Math.Option.{Option, none, some}
-use mathlib.Core.List.{List, [], ◌∷◌}
-use native.Mathlib.Omega.{arith}
-use Rattle.std.proofs.Math.Dec.{T, eqb, leb, eqb→eq, leb→le}
-use Rattle.std.proofs.Math.ListN.{length-drop}
-use Rattle.std.proofs.Math.Seq.{length-take-le}
 use Rattle.std.proofs.Math.Facts.{and_yes, yes_and, or_yes, yes_eqb}
 use Rattle.characters.specs.Answers.{every, pick, by_pick, first_of}
 use Rattle.groups.specs.Forms.{Form, matches, last_of, has_length, fits, some_fits, fewest, most}

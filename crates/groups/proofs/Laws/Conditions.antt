@@ -1,11 +1,9 @@
 -- The reader's answer is that of document 01's conditions in a row.
-use Rattle.std.specs.Prelude.{◌≡◌, refl, Bool, not, ◌||◌, List, [], ◌∷◌, ◌++◌, ℕ, zero, suc, ◌+◌, ◌-◌, ◌<◌, ◌≤◌, T, eqb, ltb, length, take, drop, get_or}
-use Rattle.std.proofs.Common.{sym, ap, ◌∙◌, add-one, arith, ltb→lt, nltb→le, eqb→eq, T_not, length-drop, length-take-le, take-suc, drop_at, get_or-take, get_or-drop, take-take, take-add}
-use Rattle.std.proofs.Math.Bool.{true, false, not-not}
+use Rattle.std.proofs.Common.{◌≡◌, refl, Bool, not, ◌||◌, List, [], ◌∷◌, ◌++◌, ℕ, zero, suc, ◌+◌, ◌-◌, ◌<◌, ◌≤◌, T, eqb, ltb, length, take, drop, get_or, sym, ap, ◌∙◌, add-one, arith, ltb→lt, nltb→le, eqb→eq, T_not, length-drop, length-take-le, take-suc, drop_at, get_or-take, get_or-drop, take-take, take-add, eq-eqb, ne_eqb, lt-ltb, le-ltb, true, false}
+use Rattle.std.proofs.Math.Bool.{not-not}
 use Rattle.std.proofs.Math.Option.{Option, none, some}
 use Rattle.std.proofs.Math.Seq.{split_at}
 use Rattle.std.proofs.Math.Facts.{T_not-not, or_no, eqb_no}
-use borrow.Author.Tests.{eq-eqb, ne_eqb, lt-ltb, le-ltb}
 use Rattle.characters.specs.Answers.{Answer, refused, need, found, every, by_need, by_pick, first_of}
 use Rattle.groups.specs.Modes.{separator, counted_at_end}
 use Rattle.groups.specs.Formats.{Rule, is_drawn}

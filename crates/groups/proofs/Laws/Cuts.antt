@@ -1,6 +1,5 @@
 -- A text is cut where it was joined, and what was cut joins again.
-use Rattle.std.specs.Prelude.{◌≡◌, refl, Bool, not, List, [], ◌∷◌, ◌++◌, ℕ, ◌≤◌, T, eqb, length}
-use Rattle.std.proofs.Common.{ap, ◌∙◌, subst, arith, eqb→eq, length-append}
+use Rattle.std.proofs.Common.{◌≡◌, refl, Bool, not, List, [], ◌∷◌, ◌++◌, ℕ, ◌≤◌, T, eqb, length, ap, ◌∙◌, subst, arith, eqb→eq, length-append}
 use Rattle.std.proofs.Math.Option.{Option, none, some}
 use Rattle.std.proofs.Math.Dec.{eqb_refl}
 use Rattle.std.proofs.Math.Facts.{and_yes, yes_and}

@@ -1,13 +1,8 @@
 -- How far data get in the pictures of their rule is where they go wrong in document 02's words: every character of a picture
 -- takes itself, so what begins right can go on as the picture does.
-use Rattle.std.specs.Prelude.{◌≡◌, refl, ◌↔◌, Bool, true, false, not, ◌&&◌, ◌||◌, ℕ, zero, suc, ◌+◌, ◌-◌, ◌<◌, ◌≤◌, eqb, leb, get_or, replicate}
-use Rattle.std.proofs.Common.{sym, ap, ◌∙◌, arith, leb→le, eqb→eq, T_not, length-take, length-drop, length-take-le, take_at, get_or-take}
-use Rattle.std.proofs.Math.Path.{subst}
-use Rattle.std.proofs.Math.Logic.{⊎_elim}
+use Rattle.std.proofs.Common.{◌≡◌, refl, ◌↔◌, Bool, true, false, not, ◌&&◌, ◌||◌, ℕ, zero, suc, ◌+◌, ◌-◌, ◌<◌, ◌≤◌, eqb, leb, get_or, replicate, sym, ap, ◌∙◌, arith, leb→le, eqb→eq, T_not, length-take, length-drop, length-take-le, take_at, get_or-take, List, [], ◌∷◌, ◌++◌, subst, ⊎_elim, T, length, take, drop, length-append}
 use Rattle.std.proofs.Math.Option.{some}
-use mathlib.Core.List.{List, [], ◌∷◌, ◌++◌}
-use Rattle.std.proofs.Math.Dec.{T, eqb_refl}
-use Rattle.std.proofs.Math.ListN.{length, take, drop, length-append}
+use Rattle.std.proofs.Math.Dec.{eqb_refl}
 use Rattle.std.proofs.lemmas.List.{length-replicate}
 use Rattle.std.proofs.Math.Facts.{and_yes, yes_and, or_yes}
 use Rattle.characters.specs.Answers.{every, every_at, at_every, every_joined, pick_yes, by_pick}

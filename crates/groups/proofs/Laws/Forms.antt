@@ -1,10 +1,6 @@
 -- The laws of forms: data get past their end in some form exactly when some form takes them; a picture in two parts; a run of
 -- one kind.
-use Rattle.std.specs.Prelude.{◌≡◌, refl, Bool, true, false, ◌&&◌, ◌||◌, List, [], ◌∷◌, ◌++◌, leb, length, take, drop, replicate}
-use Rattle.std.proofs.Math.Path.{ap}
-use Rattle.std.proofs.Common.{◌∙◌, ⊎_elim, append-nil, arith, length-append, length-drop}
-use Prim.Native.Nat.{ℕ, zero, suc, ◌+◌, ◌-◌, ◌≤◌}
-use Rattle.std.proofs.Math.Dec.{T, leb→le}
+use Rattle.std.proofs.Common.{◌≡◌, refl, Bool, true, false, ◌&&◌, ◌||◌, List, [], ◌∷◌, ◌++◌, leb, length, take, drop, replicate, ◌∙◌, ⊎_elim, append-nil, arith, length-append, length-drop, ℕ, zero, suc, ◌+◌, ◌-◌, ◌≤◌, ap, T, leb→le}
 use Rattle.std.proofs.lemmas.List.{length-replicate, drop-append-le}
 use Rattle.std.proofs.Math.Facts.{and_yes, yes_and, or_yes}
 use Rattle.characters.specs.Answers.{every, pick, pick_yes, by_pick}

@@ -1,6 +1,5 @@
 -- What reading and writing come to: both say that a content is that of a group. From this, demand 2.
-use Rattle.std.specs.Prelude.{◌≡◌, refl, ◌↔◌, Bool, true, false, ◌&&◌, List, [], ◌∷◌, ◌++◌, ℕ, ◌+◌, ◌≤◌, T, eqb, leb, length, take, drop, get_or}
-use Rattle.std.proofs.Common.{sym, ap, ◌∙◌, subst, arith, eqb→eq, le→leb, leb→le, length-append, take-append-drop, take_at, drop_at}
+use Rattle.std.proofs.Common.{◌≡◌, refl, ◌↔◌, Bool, true, false, ◌&&◌, List, [], ◌∷◌, ◌++◌, ℕ, ◌+◌, ◌≤◌, T, eqb, leb, length, take, drop, get_or, sym, ap, ◌∙◌, subst, arith, eqb→eq, le→leb, leb→le, length-append, take-append-drop, take_at, drop_at}
 use Rattle.std.proofs.Math.Option.{Option, some}
 use Rattle.std.proofs.Math.Dec.{eqb_refl}
 use Rattle.std.proofs.Math.Facts.{and_yes}

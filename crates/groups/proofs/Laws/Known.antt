@@ -1,8 +1,7 @@
 -- In a mode that there is: its number, and when the first condition that holds is 8.
-use Rattle.std.specs.Prelude.{◌≡◌, refl, Bool, false, not, List, [], ◌∷◌, ℕ, ◌≤◌, ◌<◌, T, eqb, length}
+use Rattle.std.proofs.Common.{◌≡◌, refl, Bool, false, not, List, [], ◌∷◌, ℕ, ◌≤◌, ◌<◌, T, eqb, length, lt-ltb, le-ltb}
 use Rattle.std.proofs.Math.Option.{some}
 use Rattle.std.proofs.lemmas.Bool.{lt-leb}
-use Rattle.std.proofs.Common.{lt-ltb, le-ltb}
 use Rattle.std.proofs.Math.Facts.{and_yes}
 use Rattle.characters.specs.Answers.{refused, found_yes, need, every, pick, by_pick, first_of}
 use Rattle.groups.specs.Modes.{mode_of}

@@ -1,9 +1,8 @@
 -- The table has the rows of the pages, and no others.
-use Rattle.std.specs.Prelude.{◌≡◌, refl, ◌↔◌, ℕ}
-use Rattle.std.proofs.Common.{⊎_elim}
+use Rattle.std.proofs.Common.{◌≡◌, refl, ◌↔◌, ℕ, ⊎_elim, List, [], ◌∷◌, map}
 use Rattle.std.proofs.Math.Option.{Option, none, some}
 use mathlib.Core.List.Memᴰ
-use mathlib.Core.List.{List, [], ◌∷◌, map, Memᴰ}
+use mathlib.Core.List.{Memᴰ}
 use Rattle.characters.specs.Answers.{pick, by_pick}
 use Rattle.groups.specs.Formats.{form_of}
 use Rattle.groups.specs.Table.{historic_rows, standard_rows, business_rows, rows, same}

@@ -1,7 +1,6 @@
 -- A right group has no more bytes than its row allows; and groups of which no two have the same label have no more than one
 -- group of each label in the list.
-use Rattle.std.specs.Prelude.{◌≡◌, refl, Bool, true, false, not, List, [], ◌∷◌, ℕ, ◌+◌, ◌≤◌, T, length}
-use Rattle.std.proofs.Common.{sym, ap, ◌∙◌, arith, T_not}
+use Rattle.std.proofs.Common.{◌≡◌, refl, Bool, true, false, not, List, [], ◌∷◌, ℕ, ◌+◌, ◌≤◌, T, length, sym, ap, ◌∙◌, arith, T_not}
 use Rattle.std.proofs.Math.Option.{some}
 use Rattle.std.proofs.Math.Facts.{and_yes}
 use Rattle.characters.specs.Answers.{every, pick}

@@ -1,6 +1,5 @@
 -- Data fit the form of a format exactly when they are made of its fields.
-use Rattle.std.specs.Prelude.{◌≡◌, refl, Bool, true, false, not, ◌&&◌, ◌||◌, List, [], ◌∷◌, ◌++◌, ℕ, zero, suc, ◌+◌, ◌-◌, ◌≤◌, T, eqb, leb, ltb, length, take, drop}
-use Rattle.std.proofs.Common.{sym, ap, ◌∙◌, subst, ⊎_elim, arith, eqb→eq, leb→le, le→leb, T_not, length-append, length-drop, take-append-drop, length-take-le, ne_eqb, le-leb, le-ltb, lt-ltb}
+use Rattle.std.proofs.Common.{◌≡◌, refl, Bool, true, false, not, ◌&&◌, ◌||◌, List, [], ◌∷◌, ◌++◌, ℕ, zero, suc, ◌+◌, ◌-◌, ◌≤◌, T, eqb, leb, ltb, length, take, drop, sym, ap, ◌∙◌, subst, ⊎_elim, arith, eqb→eq, leb→le, le→leb, T_not, length-append, length-drop, take-append-drop, length-take-le, ne_eqb, le-leb, le-ltb, lt-ltb}
 use Rattle.std.proofs.lemmas.List.{length-replicate}
 use Rattle.std.proofs.Math.Facts.{and_yes, yes_and, or_yes, yes_eqb}
 use Rattle.std.proofs.lemmas.Bool.{lt-leb}
@@ -28,7 +27,7 @@ use Rattle.groups.specs.Spelled.{among, spelled}
 use Rattle.groups.specs.Fields.{width_right, kind_right}
 use Rattle.groups.specs.Conditions.{outside}
 use Rattle.groups.specs.Made.{is_field, some_up_to, made_of, some_made}
-use Rattle.groups.proofs.Laws.Tests.{split, equal_or}
+use Rattle.groups.proofs.Laws.Tests.{split, equal_or, one_test}
 use Rattle.groups.proofs.Laws.Forms.{
   match_length,
   match_parts,
@@ -235,20 +234,13 @@ fits_made (f ∷ fs) d w t =
     (subst (λ (i : ℕ). T (matches (last_of i (longest_of f)) (take n d))) (sym b) front)))
     (fits_made fs (drop n d) (fixed_drawn fs v) (whole_fits (form_of fs).least q (drop n d) (omega arith) rest)))
 
--- two tests of which each passes where the other does are the same
-same_tests : (a b : Bool) → (T a → T b) → (T b → T a) → a ≡ b
-same_tests true true f g = refl
-same_tests true false f g = absurd (f tt)
-same_tests false true f g = absurd (g tt)
-same_tests false false f g = refl
-
 -- data have a form of one of the formats exactly when they are made of one of them
 pub made_agrees : (formats : List (List Field)) (d : List ℕ) → T (every is_drawn formats) → some_fits (forms formats) d ≡ some_made formats d
 unfolding some_fits some_made
 made_agrees [] d t = refl
 made_agrees (fs ∷ more) d t =
     let (u, v) = and_yes (is_drawn fs) (every is_drawn more) t in
-    rw (same_tests (fits (form_of fs) d) (made_of fs d) (fits_made fs d u) (made_fits fs d u), made_agrees more d v)
+    rw (one_test (fits (form_of fs) d) (made_of fs d) (fits_made fs d u) (made_fits fs d u), made_agrees more d v)
 
 -- ---- What a rule asks of data
 

@@ -1,8 +1,5 @@
 -- Conditions in a row that have the names of refusals, as the definitions do, and the same with document 01's numbers.
-use Rattle.std.specs.Prelude.{◌≡◌, Bool, true, false, not, ℕ, ◌≤◌}
-use Rattle.std.proofs.Math.Path.{refl}
-use mathlib.Core.List.{List, [], ◌∷◌}
-use Rattle.std.proofs.Common.{lit≤}
+use Rattle.std.proofs.Common.{◌≡◌, Bool, true, false, not, ℕ, ◌≤◌, List, [], ◌∷◌, lit≤, refl}
 use Rattle.characters.specs.Answers.{Answer, given, not_given, need, pick, first_of}
 use Rattle.groups.specs.Numbers.{number_of_refusal, number_as}
 use Rattle.groups.specs.declared.Refusal.{Refusal}

@@ -1,6 +1,5 @@
 -- A content that is written is HT and characters of 0x20 to 0x7E, and it comes off the wire as it went on.
-use Rattle.std.specs.Prelude.{◌≡◌, refl, Bool, true, false, ◌&&◌, ◌||◌, List, [], ◌∷◌, ◌++◌, map, ℕ, zero, suc, ◌+◌, ◌-◌, ◌≤◌, ◌<◌, T, leb, ltb, eqb, length, drop}
-use Rattle.std.proofs.Common.{sym, subst, ⊎_elim, arith, leb→le, le→leb, ltb→lt, lt→ltb, eqb→eq, length-append, take_at}
+use Rattle.std.proofs.Common.{◌≡◌, refl, Bool, true, false, ◌&&◌, ◌||◌, List, [], ◌∷◌, ◌++◌, map, ℕ, zero, suc, ◌+◌, ◌-◌, ◌≤◌, ◌<◌, T, leb, ltb, eqb, length, drop, sym, subst, ⊎_elim, arith, leb→le, le→leb, ltb→lt, lt→ltb, eqb→eq, length-append, take_at}
 use Rattle.std.proofs.lemmas.List.{length-map}
 use Rattle.std.proofs.Math.Facts.{and_yes, yes_and, or_yes}
 use Rattle.characters.specs.Answers.{given, every, every_weaker, every_joined, from_true, by_pick}

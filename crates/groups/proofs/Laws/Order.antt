@@ -1,13 +1,8 @@
 -- Halving: in a list that is in order, the half that is left out cannot have what is looked for. It is said once, over any
 -- order and any rows, and then of labels by their bytes.
-use Rattle.std.specs.Prelude.{◌≡◌, ◌↔◌, ◌⊎◌, Bool, true, false, ◌&&◌, ltb, leb, length, get_or, take, drop}
-use Rattle.std.proofs.Math.Path.{refl, ap, subst}
-use Rattle.std.proofs.Common.{sym, ◌∙◌, inl, inr, ⊎_elim, le_of_suc-le-suc, not-suc-le-zero, arith, leb→le, length-take, length-drop, get_or-take, take_all, eq-eqb, ne_eqb, ltb-true, lt-ltb}
+use Rattle.std.proofs.Common.{◌≡◌, ◌↔◌, ◌⊎◌, Bool, true, false, ◌&&◌, ltb, leb, length, get_or, take, drop, sym, ◌∙◌, inl, inr, ⊎_elim, le_of_suc-le-suc, not-suc-le-zero, arith, leb→le, length-take, length-drop, get_or-take, take_all, eq-eqb, ne_eqb, ltb-true, lt-ltb, List, [], ◌∷◌, ◌++◌, ℕ, zero, suc, ◌^◌, ◌≤◌, ◌<◌, refl, ap, subst, T}
 use Rattle.std.proofs.Math.Option.{Option, none, some}
-use mathlib.Core.List.{List, [], ◌∷◌, ◌++◌}
-use Prim.Native.Nat.{ℕ, zero, suc, ◌^◌, ◌≤◌, ◌<◌}
 use Rattle.std.proofs.Math.Nat.{two-pow-succ}
-use Rattle.std.proofs.Math.Dec.{T}
 use Rattle.std.proofs.Math.ListN.{get_or-map}
 use Rattle.std.proofs.Math.Facts.{and_yes, yes_and}
 use Rattle.characters.specs.Answers.{every, every_at, is_true, from_true, pick}
@@ -250,7 +245,7 @@ halved : (n : ℕ) (e : Entry) (es : List Entry) → T (in_order (e ∷ es)) →
     → halving n l (drop (middle (e ∷ es)) (e ∷ es)) ≡ lookup l (drop (middle (e ∷ es)) (e ∷ es))
     → halving (suc n) l (e ∷ es) ≡ lookup l (e ∷ es)
 unfolding halving pick
-halved n e es t l first-half second-half = go (before l (label_at (e ∷ es) i)) refl
+halved n e es t l first_half second_half = go (before l (label_at (e ∷ es) i)) refl
   where
     i : ℕ
     i = middle (e ∷ es)
@@ -260,8 +255,8 @@ halved n e es t l first-half second-half = go (before l (label_at (e ∷ es) i))
 
     go : (b : Bool) → before l (label_at (e ∷ es) i) ≡ b
         → pick b (halving n l (take i (e ∷ es))) (halving n l (drop i (e ∷ es))) ≡ lookup l (e ∷ es)
-    go true b = first-half ∙ sym (found_before l (e ∷ es) i t inside b)
-    go false b = second-half ∙ sym (found_from l (e ∷ es) i t inside b)
+    go true b = first_half ∙ sym (found_before l (e ∷ es) i t inside b)
+    go false b = second_half ∙ sym (found_from l (e ∷ es) i t inside b)
 
 either_way : {A : Type 0} (b : Bool) (x y : A) → x ≡ y → pick b x x ≡ y
 unfolding pick

@@ -1,6 +1,5 @@
 -- Labels as numbers: the order of these numbers is that of the bytes.
-use Rattle.std.specs.Prelude.{◌≡◌, Bool, List, [], ◌∷◌, ℕ, zero, suc, ◌*◌, ◌^◌, ◌<◌, ◌≤◌, T, ltb, get_or}
-use Rattle.std.proofs.Common.{sym, subst, not-suc-le-zero, mul-le-mul_right, suc-mul, pow-suc, arith, lt-ltb, eq-eqb, ne_eqb}
+use Rattle.std.proofs.Common.{◌≡◌, Bool, List, [], ◌∷◌, ℕ, zero, suc, ◌*◌, ◌^◌, ◌<◌, ◌≤◌, T, ltb, get_or, sym, subst, not-suc-le-zero, mul-le-mul_right, suc-mul, pow-suc, arith, lt-ltb, eq-eqb, ne_eqb}
 use Rattle.std.proofs.Math.Nat.{one-le-pow}
 use Rattle.characters.specs.Answers.{from_true, pick}
 use Rattle.groups.specs.Order.{before}

@@ -1,14 +1,6 @@
 -- The laws of the place that judging tells (M-104).
-use Rattle.std.specs.Prelude.{◌≡◌, Bool, ◌&&◌, ◌||◌, List, [], ◌∷◌, ◌++◌, length, take, get_or}
-use Rattle.std.proofs.Math.Path.{refl, ap, subst}
-use Rattle.std.proofs.Common.{sym, ◌∙◌, ⊎_elim, eqb→eq, ne_eqb}
-use Rattle.std.proofs.Math.Bool.{true, false, not}
+use Rattle.std.proofs.Common.{◌≡◌, Bool, ◌&&◌, ◌||◌, List, [], ◌∷◌, ◌++◌, length, take, get_or, sym, ◌∙◌, ⊎_elim, eqb→eq, ne_eqb, ℕ, suc, ◌+◌, ◌-◌, ◌<◌, ◌≤◌, arith, refl, ap, subst, true, false, not, T, eqb, ltb, ltb→lt, nltb→le, length-drop, length-take-le, take-suc}
 use Rattle.std.proofs.Math.Option.{Option, none, some}
-use Prim.Native.Nat.{ℕ, suc, ◌+◌, ◌-◌, ◌<◌, ◌≤◌}
-use native.Mathlib.Omega.{arith}
-use Rattle.std.proofs.Math.Dec.{T, eqb, ltb, ltb→lt, nltb→le}
-use Rattle.std.proofs.Math.ListN.{length-drop}
-use Rattle.std.proofs.Math.Seq.{length-take-le, take-suc}
 use Rattle.std.proofs.Math.Facts.{and_yes, or_yes, or_no, T_not-not}
 use Rattle.characters.specs.Answers.{Answer, refused, given, pick, pick_no, first_of}
 use Rattle.groups.specs.Modes.{mode_of, separator}

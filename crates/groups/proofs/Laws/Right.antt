@@ -1,6 +1,5 @@
 -- Reading says that a content is that of a right group, in document 01's own terms.
-use Rattle.std.specs.Prelude.{◌≡◌, refl, ◌↔◌, Bool, not, List, [], ◌∷◌, ◌++◌, ℕ, ◌+◌, ◌%◌, T, leb, length}
-use Rattle.std.proofs.Common.{sym, ◌∙◌, subst, ⊎_elim, append_assoc, arith, leb→le, le→leb, T_not}
+use Rattle.std.proofs.Common.{◌≡◌, refl, ◌↔◌, Bool, not, List, [], ◌∷◌, ◌++◌, ℕ, ◌+◌, ◌%◌, T, leb, length, sym, ◌∙◌, subst, ⊎_elim, append_assoc, arith, leb→le, le→leb, T_not}
 use Rattle.std.proofs.Math.Option.{Option, some}
 use mathlib.Core.List.Memᴰ
 use mathlib.Core.List.{Memᴰ}

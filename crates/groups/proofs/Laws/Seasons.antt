@@ -1,11 +1,9 @@
 -- The laws behind M-101: a stamp with a small season letter is right where the one with its capital is, and one of DPM or
 -- FPM with anything but a space is not.
-use Rattle.std.specs.Prelude.{◌≡◌, Bool, true, false, not, ◌&&◌, List, [], ◌∷◌, ◌++◌, T, eqb, length, take}
-use Rattle.std.proofs.Math.Path.{refl}
-use Rattle.std.proofs.Common.{sym, ap, ◌∙◌, subst, ⊎_elim, append_assoc, arith, ne_eqb}
+use Rattle.std.proofs.Common.{◌≡◌, Bool, true, false, not, List, [], ◌∷◌, ◌++◌, T, eqb, length, take, sym, ap, ◌∙◌, subst, ⊎_elim, append_assoc, arith, ne_eqb, ℕ, zero, suc, ◌≤◌, ◌<◌, refl}
 use Rattle.std.proofs.Math.Option.{Option, none, some}
-use Prim.Native.Nat.{ℕ, zero, suc, ◌≤◌, ◌<◌}
 use Rattle.std.proofs.Math.Facts.{and_yes, or_yes}
+use Rattle.std.proofs.Math.Bool.{and-false}
 use Rattle.characters.specs.Answers.{every, is_true, is_false, pick, first_of}
 use Rattle.characters.specs.Wire.{HT, SP}
 use Rattle.groups.specs.Formats.{Rule}
@@ -42,14 +40,10 @@ degraded_stamp Letter summer rest = refl
 degraded_stamp Space winter rest = refl
 degraded_stamp Space summer rest = refl
 
-and_no : (b : Bool) → (b && false) ≡ false
-and_no true = refl
-and_no false = refl
-
 -- where the season is to be a space, nothing else is right
 no_space : (x : ℕ) (rest : List ℕ) → T (not (eqb x SP)) → stamp_right Space (x ∷ rest) ≡ false
 unfolding stamp_as
-no_space x rest n = rw (is_false {b = eqb x SP} n) (and_no (eqb (length (x ∷ rest)) 13))
+no_space x rest n = rw (is_false {b = eqb x SP} n) (and-false (eqb (length (x ∷ rest)) 13))
 
 -- ---- DPM and FPM
 
@@ -165,7 +159,7 @@ alike rule x y rest stamped e = rw (e, stamped)
 unspaced : (rule : Rule) (x : ℕ) (rest : List ℕ) → rule.mark ≡ Space → T (not (eqb x SP))
     → first_of 1 (field_conditions Standard (x ∷ rest) (some rule)) ≡ 12
 unfolding first_of pick
-unspaced rule x rest spaced n = rw (spaced, no_space x (take 12 rest) n, and_no (stamp_followed Standard (x ∷ rest)))
+unspaced rule x rest spaced n = rw (spaced, no_space x (take 12 rest) n, and-false (stamp_followed Standard (x ∷ rest)))
 
 module _ (label : List ℕ) (rule : Rule) (listed : lookup label (rows Standard) ≡ some rule) where
   -- judging a content of this label, by what stands behind its separator

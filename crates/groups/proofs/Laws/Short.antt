@@ -1,6 +1,5 @@
 -- How long a content is that is accepted.
-use Rattle.std.specs.Prelude.{◌≡◌, List, ℕ, ◌≤◌, length}
-use Rattle.std.proofs.Math.Dec.{leb→le}
+use Rattle.std.proofs.Common.{◌≡◌, List, ℕ, ◌≤◌, length, leb→le}
 use Rattle.characters.specs.Answers.{given, need_given}
 use Rattle.groups.specs.Groups.{Group, read}
 use Rattle.groups.specs.Judging.{judging}

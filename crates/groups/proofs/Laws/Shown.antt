@@ -1,10 +1,5 @@
 -- The stretches that judging shows are the fields, and lie inside the content.
-use Rattle.std.specs.Prelude.{◌≡◌, Bool, ℕ, zero, suc, ◌+◌, ◌≤◌, ◌<◌, T, length, take, drop, get_or, Ok}
-use Rattle.std.proofs.Math.Path.{refl}
-use Rattle.std.proofs.Common.{sym, ap, ◌∙◌, subst, arith, le→leb, length-drop, take_at, drop_at, take-take, length-take-le, get_or-take, get_or-drop}
-use Rattle.std.proofs.Math.Bool.{true, false}
-use mathlib.Core.List.{List, [], ◌∷◌, ◌++◌, append_assoc}
-use Rattle.std.proofs.Math.ListN.{length-append}
+use Rattle.std.proofs.Common.{◌≡◌, Bool, ℕ, zero, suc, ◌+◌, ◌≤◌, ◌<◌, T, length, take, drop, get_or, Ok, sym, ap, ◌∙◌, subst, arith, le→leb, length-drop, take_at, drop_at, take-take, length-take-le, get_or-take, get_or-drop, List, [], ◌∷◌, ◌++◌, append_assoc, refl, true, false, length-append}
 use Rattle.std.proofs.lemmas.Bool.{lt-leb}
 use Rattle.characters.specs.Answers.{Answer, refused, given, found_given, pick, pick_yes}
 use Rattle.groups.specs.Modes.{separator}

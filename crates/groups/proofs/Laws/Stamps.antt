@@ -1,10 +1,8 @@
 -- Kinds and stamps as the reader tests them are kinds and stamps as they are spelled and written.
-use Rattle.std.specs.Prelude.{◌≡◌, refl, ◌↔◌, Bool, true, false, not, ◌&&◌, ◌||◌, ℕ, zero, suc, ◌+◌, ◌-◌, ◌*◌, ◌/◌, ◌%◌, ◌≤◌, ◌<◌, leb, ltb, eqb, length, drop, get_or}
-use Rattle.std.proofs.Common.{sym, ap, ◌∙◌, subst, ⊎_elim, add-one, arith, lit<, leb→le, le→leb, ltb→lt, lt→ltb}
-use mathlib.Core.List.{List, [], ◌∷◌, ◌++◌}
-use Rattle.std.proofs.Math.Dec.{T, eqb→eq}
+use Rattle.std.proofs.Common.{◌≡◌, refl, ◌↔◌, Bool, true, false, not, ◌&&◌, ◌||◌, ℕ, zero, suc, ◌+◌, ◌-◌, ◌*◌, ◌/◌, ◌%◌, ◌≤◌, ◌<◌, leb, ltb, eqb, length, drop, get_or, sym, ap, ◌∙◌, subst, ⊎_elim, add-one, arith, lit<, leb→le, le→leb, ltb→lt, lt→ltb, List, [], ◌∷◌, ◌++◌, T, eqb→eq}
 use Rattle.std.proofs.Math.Facts.{and_yes, yes_and, or_yes}
-use Rattle.characters.specs.Answers.{every, every_at, every_joined, below, below_at, is_true, pick}
+use Rattle.groups.proofs.Laws.Tests.{one_test}
+use Rattle.characters.specs.Answers.{every, every_at, every_joined, below, below_at, pick}
 use Rattle.characters.specs.Wire.{SP}
 use Rattle.groups.specs.Kinds.{within, of_kind}
 use Rattle.groups.specs.Table.{codes}
@@ -77,16 +75,10 @@ kinds_agree k c = (
   among_passes (of_kind k) (spelled k) c (all_of_kind k),
 )
 
--- two tests that pass for the same are the same
-one_test : (a b : Bool) → T a ↔ T b → a ≡ b
-one_test true b h = sym (is_true (h.0 tt))
-one_test false true h = absurd (h.1 tt)
-one_test false false h = refl
-
 -- and so for a text
 pub kinds_agree_in : (k : Kind) (d : List ℕ) → every (of_kind k) d ≡ every (among (spelled k)) d
 kinds_agree_in k [] = refl
-kinds_agree_in k (x ∷ d) = rw (one_test (of_kind k x) (among (spelled k) x) (kinds_agree k x), kinds_agree_in k d)
+kinds_agree_in k (x ∷ d) = rw (one_test (of_kind k x) (among (spelled k) x) (kinds_agree k x).0 (kinds_agree k x).1, kinds_agree_in k d)
 
 -- ---- Numbers of two digits
 

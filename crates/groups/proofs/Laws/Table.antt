@@ -1,6 +1,5 @@
 -- The table's rules: each is one test that is computed over all its rows, and holds of each row that is found.
-use Rattle.std.specs.Prelude.{◌≡◌, refl, Bool, true, not, ◌&&◌, List, [], ◌∷◌, ℕ, ◌+◌, T, eqb, leb, length}
-use Rattle.std.proofs.Common.{subst, eqb→eq, leb→le}
+use Rattle.std.proofs.Common.{◌≡◌, refl, Bool, true, not, ◌&&◌, List, [], ◌∷◌, ℕ, ◌+◌, T, eqb, leb, length, subst, eqb→eq, leb→le}
 use Rattle.std.proofs.Math.Option.{Option, some}
 use Rattle.std.proofs.Math.Facts.{and_yes}
 use Rattle.characters.specs.Answers.{every, pick, by_pick}

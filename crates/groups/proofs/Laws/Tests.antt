@@ -1,7 +1,6 @@
 -- Small laws of tests, options and lists.
-use Rattle.std.specs.Prelude.{◌≡◌, refl, List, [], ◌∷◌, ℕ, ◌≤◌, ◌<◌, T, eqb}
+use Rattle.std.proofs.Common.{◌≡◌, refl, List, [], ◌∷◌, ℕ, ◌≤◌, ◌<◌, T, eqb, arith, lt_of_not-le, eqb→eq, Bool, true, false}
 use Rattle.std.proofs.Math.Option.{none, some}
-use Rattle.std.proofs.Common.{arith, lt_of_not-le, eqb→eq}
 use Rattle.std.proofs.Math.Decide.{dec_le, ℕ_discrete}
 use Rattle.std.proofs.Math.Dec.{eqb_refl}
 use Rattle.std.proofs.Math.Facts.{and_yes, yes_and}
@@ -14,6 +13,13 @@ split a b f g = elim (dec_le a b) [ yes h ↦ f h | no h ↦ g (lt_of_not-le h) 
 -- the same number or not
 pub equal_or {ℓ} : {X : Type ℓ} (a b : ℕ) → (a ≡ b → X) → ((a ≡ b → ⊥) → X) → X
 equal_or a b f g = elim (ℕ_discrete a b) [ yes e ↦ f e | no n ↦ g n ]
+
+-- two tests that pass for the same are the same
+pub one_test : (a b : Bool) → (T a → T b) → (T b → T a) → a ≡ b
+one_test true true f g = refl
+one_test true false f g = absurd (f tt)
+one_test false true f g = absurd (g tt)
+one_test false false f g = refl
 
 pub zero_is_not_one : ◌≡◌ {A = ℕ} 0 1 → ⊥
 zero_is_not_one z = omega arith

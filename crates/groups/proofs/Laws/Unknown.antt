@@ -1,8 +1,6 @@
 -- A number that is no mode's, however large: "19 now means a mode not 0 to 2" (document 02, M-100).
-use Rattle.std.specs.Prelude.{◌≡◌, refl, false, List, ℕ, zero, suc, ◌≤◌, ltb}
-use Rattle.std.proofs.Common.{ap, arith}
+use Rattle.std.proofs.Common.{◌≡◌, refl, false, List, ℕ, zero, suc, ◌≤◌, ltb, ap, arith, ne_eqb, le-ltb}
 use Rattle.std.proofs.Math.Option.{none}
-use borrow.Author.Tests.{ne_eqb, le-ltb}
 use Rattle.characters.specs.Answers.{refused, found_no, pick}
 use Rattle.groups.specs.Modes.{mode_of, is_known, is_mode}
 use Rattle.groups.specs.Groups.{Group}

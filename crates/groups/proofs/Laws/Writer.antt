@@ -1,10 +1,7 @@
 -- The number that writing tells is that of document 01's conditions in a row.
-use Rattle.std.specs.Prelude.{◌≡◌, Bool, not, List, [], ◌∷◌, ℕ, zero, suc, T, leb, ltb, length}
-use Rattle.std.proofs.Math.Path.{refl}
-use Rattle.std.proofs.Common.{ap, ◌∙◌, ne_eqb, lt-ltb}
-use Rattle.std.proofs.Math.Bool.{true, false, not-not}
+use Rattle.std.proofs.Common.{◌≡◌, Bool, not, List, [], ◌∷◌, ℕ, zero, suc, T, leb, ltb, length, ap, ◌∙◌, ne_eqb, lt-ltb, arith, refl, true, false}
+use Rattle.std.proofs.Math.Bool.{not-not}
 use Rattle.std.proofs.Math.Option.{Option, none, some}
-use native.Mathlib.Omega.{arith}
 use Rattle.characters.specs.Answers.{Answer, refused, given, need, found, every, pick, first_of, from_true}
 use Rattle.groups.specs.Modes.{mode_of}
 use Rattle.groups.specs.Formats.{Rule, is_drawn}

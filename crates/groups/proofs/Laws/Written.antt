@@ -1,6 +1,5 @@
 -- How many bytes a writing tells, and what it leaves of a buffer.
-use Rattle.std.specs.Prelude.{◌≡◌, refl, List, ◌++◌, ℕ, zero, suc, ◌+◌, ◌-◌, ◌≤◌, eqb, length, drop, get_or}
-use Rattle.std.proofs.Common.{sym, ap, ◌∙◌, subst, arith, leb→le, length-append, length-drop, get_or-append-add, get_or-drop, ne_eqb}
+use Rattle.std.proofs.Common.{◌≡◌, refl, List, ◌++◌, ℕ, zero, suc, ◌+◌, ◌-◌, ◌≤◌, eqb, length, drop, get_or, sym, ap, ◌∙◌, subst, arith, leb→le, length-append, length-drop, get_or-append-add, get_or-drop, ne_eqb}
 use Rattle.std.proofs.Math.Seq.{take-append_seam}
 use Rattle.characters.specs.Answers.{Answer, refused, given, not_given, need_given, found, found_given, pick}
 use Rattle.groups.specs.Modes.{mode_of}

@@ -1,6 +1,5 @@
 -- A number is that of a mode where there is one.
-use Rattle.std.proofs.Common.{◌∙◌, ap}
-use Rattle.std.specs.Prelude.{is_ok}
+use Rattle.std.proofs.Common.{◌∙◌, ap, is_ok}
 use Rattle.groups.specs.Modes.{mode_of}
 use Rattle.groups.proofs.Views.{known_is_ok}
 use Rattle.groups.proofs.is_mode.Goals as goal

@@ -1,11 +1,8 @@
 -- A part that fits, and the empty part where it does not.
-use Prim.Native.Nat.{ℕ, ◌+◌, ◌-◌}
+use Rattle.std.proofs.Common.{ℕ, ◌+◌, ◌-◌, le-leb, length, ◌≡◌, arith}
+use Rattle.std.proofs.lemmas.Bool.{lt-leb}
 use Rattle.characters.specs.Answers.{pick}
 use Rattle.groups.specs.Judging.{part_of, part_start}
-use borrow.Author.Tests.{le-leb, lt-leb}
-use lib.ListN.{length}
-use mathlib.Core.Path.{◌≡◌}
-use native.Mathlib.Omega.{arith}
 use Rattle.groups.proofs.part.Goals as goal
 
 -- a part at the start lies where the content does

@@ -1,6 +1,5 @@
 -- A known mode is written, an unknown one is 19.
-use Rattle.std.proofs.Common.{sym}
-use Rattle.std.specs.Prelude.{length}
+use Rattle.std.proofs.Common.{sym, length}
 use Rattle.std.proofs.lemmas.Result.{err_from_is_err_and}
 use Rattle.groups.proofs.Laying.{write_mode, write_nowhere, wrote_as, wrote_nothing}
 use Rattle.groups.specs.Groups.{group_of}

@@ -6,9 +6,7 @@ use Rattle.groups.specs.Packed.{packed, unpacked}
 use Rattle.groups.specs.Stored.{formats_from, numbered, under}
 use Rattle.groups.specs.Table.{business_rows}
 use Rattle.groups.specs.declared.Mode.TheVariants.{Business}
-use lib.Dec.{lit<, lit≤}
-use mathlib.Core.Path.{refl}
-use native.Mathlib.Nat.{not-suc-le-zero}
+use Rattle.std.proofs.Common.{lit<, lit≤, refl, not-suc-le-zero}
 use Rattle.groups.proofs.find.business.Goals as goal
 
 pub returns-then-key-3 : goal.returns-then-key-3

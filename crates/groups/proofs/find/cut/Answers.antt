@@ -1,7 +1,5 @@
 -- What is divided away is made 0.
-use Prim.Native.Nat.{◌-◌, ◌≤◌}
-use mathlib.Core.Path.{◌≡◌}
-use native.Mathlib.Omega.{arith}
+use Rattle.std.proofs.Common.{◌-◌, ◌≤◌, ◌≡◌, arith}
 use Rattle.groups.proofs.find.cut.Goals as goal
 
 pub returns-in-0 : goal.returns-in-0

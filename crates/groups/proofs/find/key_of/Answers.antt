@@ -1,7 +1,6 @@
 -- The first eight bytes of the text, cut to the label; byte by byte where there are not so many.
 use Rattle.groups.proofs.Keys.{key_cut}
-use mathlib.Core.Path.{◌∙◌}
-use native.Mathlib.Omega.{arith}
+use Rattle.std.proofs.Common.{◌∙◌, arith}
 use Rattle.groups.proofs.find.key_of.Goals as goal
 
 pub returns-then-text-lt8 : goal.returns-then-text-lt8

@@ -1,7 +1,6 @@
 -- Each arm is the definition at its number.
-use Rattle.std.proofs.Common.{arith}
+use Rattle.std.proofs.Common.{arith, ne_eqb}
 use Rattle.characters.specs.Answers.{pick}
-use borrow.Author.Tests.{ne_eqb}
 use Rattle.groups.proofs.find.mark_in.Goals as goal
 
 pub returns-in-0 : goal.returns-in-0

@@ -1,8 +1,6 @@
 -- The row that is left is not above the key, and the next one is.
 use Rattle.groups.proofs.Search.{nearest_at}
-use borrow.Author.Rules.{rules}
-use native.Mathlib.Nat.{not-suc-le-zero}
-use native.Mathlib.Omega.{arith}
+use Rattle.std.proofs.Common.{rules, not-suc-le-zero, arith}
 use Rattle.groups.proofs.find.nearest.Goals as goal
 
 pub returns-then-key-rows-3 : goal.returns-then-key-rows-3

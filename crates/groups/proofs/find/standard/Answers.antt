@@ -5,9 +5,7 @@ use Rattle.groups.specs.Formats.{form_of}
 use Rattle.groups.specs.Packed.{packed, unpacked}
 use Rattle.groups.specs.Table.{standard_rows}
 use Rattle.groups.specs.declared.Mode.TheVariants.{Standard}
-use lib.Dec.{lit<, lit≤}
-use mathlib.Core.Path.{refl}
-use native.Mathlib.Nat.{not-suc-le-zero}
+use Rattle.std.proofs.Common.{lit<, lit≤, refl, not-suc-le-zero}
 use Rattle.groups.proofs.find.standard.Goals as goal
 
 pub returns-then-key-3 : goal.returns-then-key-3

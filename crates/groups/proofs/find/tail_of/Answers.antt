@@ -1,6 +1,6 @@
 -- Only a label of nine bytes has a ninth.
 use Rattle.groups.proofs.Keys.{tail_of_few, tail_of_nine}
-use native.Mathlib.Omega.{arith}
+use Rattle.std.proofs.Common.{arith}
 use Rattle.groups.proofs.find.tail_of.Goals as goal
 
 pub returns-then-n-lt9 : goal.returns-then-n-lt9

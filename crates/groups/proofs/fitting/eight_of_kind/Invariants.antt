@@ -1,6 +1,5 @@
 -- The answer so far is right only where all so far are of the kind.
-use Rattle.std.proofs.Common.{◌≡◌}
-use Rattle.std.specs.Prelude.{true}
+use Rattle.std.proofs.Common.{◌≡◌, true}
 use Rattle.characters.specs.Passing.{Pass}
 use Rattle.groups.specs.Kinds.{of_kind}
 use Rattle.groups.proofs.fitting.eight_of_kind.Given as goal

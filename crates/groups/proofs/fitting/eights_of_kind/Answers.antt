@@ -1,7 +1,7 @@
 -- Eight that are of the kind are eight more.
 use Rattle.groups.proofs.Walks.{right_further}
 use Rattle.groups.specs.Kinds.{of_kind}
-use native.Mathlib.Omega.{arith}
+use Rattle.std.proofs.Common.{arith}
 use Rattle.groups.proofs.fitting.eights_of_kind.Goals as goal
 
 pub loop-i-preserved : goal.loop-i-preserved

@@ -1,8 +1,7 @@
 -- Eight that are of the kind are eight more.
-use Prim.Native.Nat.{◌-◌}
+use Rattle.std.proofs.Common.{◌-◌, length}
 use Rattle.groups.specs.Inside.{RightUpTo}
 use Rattle.groups.specs.Kinds.{of_kind}
-use lib.ListN.{length}
 use Rattle.groups.proofs.fitting.eights_of_kind.Given as goal
 
 abbrev pub invariant-loop-i : goal.invariant-loop-i

@@ -1,5 +1,5 @@
 -- The rule is one or the other.
-use mathlib.Core.Path.{◌∙◌}
+use Rattle.std.proofs.Common.{◌∙◌}
 use Rattle.groups.proofs.fitting.fit.Goals as goal
 
 pub returns-in-Plain : goal.returns-in-Plain

@@ -1,7 +1,6 @@
 -- Each answer by the tests that led to it.
-use Rattle.std.proofs.Common.{◌≡◌, ◌∙◌, sym, le-leb}
+use Rattle.std.proofs.Common.{◌≡◌, ◌∙◌, sym, le-leb, true}
 use Rattle.std.proofs.lemmas.Bool.{lt-leb}
-use Rattle.std.specs.Prelude.{true}
 use Rattle.characters.specs.Answers.{is_true, need}
 use Rattle.groups.proofs.Pictures.{all_taken, not_taken}
 use Rattle.groups.specs.Fields.{checked, kind_right, width_right}

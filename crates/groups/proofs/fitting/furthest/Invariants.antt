@@ -1,6 +1,5 @@
 -- What is left of the forms decides, and what was reached in those gone over.
-use Rattle.std.proofs.Common.{◌≡◌, ◌+◌, ◌-◌}
-use Rattle.std.specs.Prelude.{max}
+use Rattle.std.proofs.Common.{◌≡◌, ◌+◌, ◌-◌, max}
 use Rattle.groups.specs.Formats.{forms}
 use Rattle.groups.specs.Place.{furthest}
 use Rattle.groups.specs.Stored.{formats_from}

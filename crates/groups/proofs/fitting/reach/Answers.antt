@@ -1,14 +1,9 @@
 -- Each answer by the tests that led to it.
-use Prim.Native.Nat.{ℕ, ◌-◌, ◌≤◌}
+use Rattle.std.proofs.Common.{ℕ, ◌-◌, ◌≤◌, rules, drop, length, length-drop, length-take, take, List, ◌≡◌, ap, subst, sym, arith}
 use Rattle.groups.proofs.Pictures.{reached, too_long, too_short}
 use Rattle.groups.proofs.Walks.{to_end}
 use Rattle.groups.proofs.Laws.Forms.{agreed_most}
 use Rattle.groups.specs.Place.{agreed}
-use borrow.Author.Rules.{rules}
-use lib.ListN.{drop, length, length-drop, length-take, take}
-use mathlib.Core.List.{List}
-use mathlib.Core.Path.{◌≡◌, ap, subst, sym}
-use native.Mathlib.Omega.{arith}
 use Rattle.groups.proofs.fitting.reach.Goals as goal
 use Rattle.groups.proofs.fitting.reach.Goals.{then-n-least-via-then-n-least, then-n-least-via-else-n-least+then-most-n}
 

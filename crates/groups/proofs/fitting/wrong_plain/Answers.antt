@@ -2,8 +2,7 @@
 use Rattle.groups.proofs.Pictures.{plain_unfit, plain_wrong}
 use Rattle.groups.proofs.Walks.{wrong_within}
 use Rattle.groups.specs.Kinds.{of_kind}
-use mathlib.Core.Path.{◌∙◌, sym}
-use native.Mathlib.Omega.{arith}
+use Rattle.std.proofs.Common.{◌∙◌, sym, arith}
 use Rattle.groups.proofs.fitting.wrong_plain.Goals as goal
 
 pub returns-then-data-rule : goal.returns-then-data-rule

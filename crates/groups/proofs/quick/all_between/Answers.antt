@@ -1,10 +1,8 @@
 -- What was gone over by parts is all.
-use Prim.Native.Nat.{◌+◌, ◌-◌}
+use Rattle.std.proofs.Common.{◌+◌, ◌-◌, length, arith}
 use Rattle.characters.specs.Answers.{from_true, is_true}
 use Rattle.groups.proofs.Between.{between_joined}
-use lib.ListN.{length}
-use mir.Facts.{and_yes}
-use native.Mathlib.Omega.{arith}
+use Rattle.std.proofs.Math.Facts.{and_yes}
 use Rattle.groups.proofs.quick.all_between.Goals as goal
 
 pub returns-then-n-lt4 : goal.returns-then-n-lt4

@@ -1,9 +1,7 @@
 -- Eight that lie between the texts are eight more.
-use Prim.Native.Nat.{◌+◌}
+use Rattle.std.proofs.Common.{◌+◌, rules, arith}
 use Rattle.characters.specs.Answers.{from_true}
 use Rattle.groups.proofs.Between.{between_joined, between_none}
-use borrow.Author.Rules.{rules}
-use native.Mathlib.Omega.{arith}
 use Rattle.groups.proofs.quick.eights_between.Goals as goal
 
 pub loop-i-init : goal.loop-i-init

@@ -1,5 +1,5 @@
 -- Eight that lie between the texts are eight more.
-use Prim.Native.Nat.{◌-◌, ◌≤◌}
+use Rattle.std.proofs.Common.{◌-◌, ◌≤◌}
 use Rattle.groups.specs.Stored.{Between}
 use Rattle.groups.proofs.quick.eights_between.Given as goal
 

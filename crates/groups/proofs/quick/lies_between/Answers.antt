@@ -1,7 +1,7 @@
 -- The ends of the texts are as long as the data.
 use Rattle.characters.specs.Answers.{from_true}
 use Rattle.groups.proofs.Between.{ends_bounded}
-use native.Mathlib.Omega.{arith}
+use Rattle.std.proofs.Common.{arith}
 use Rattle.groups.proofs.quick.lies_between.Goals as goal
 
 pub returns-then-n-least : goal.returns-then-n-least

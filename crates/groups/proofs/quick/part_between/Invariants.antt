@@ -1,6 +1,5 @@
 -- The answer so far is right only where all so far lie between the texts.
-use Rattle.std.proofs.Common.{◌≡◌}
-use Rattle.std.specs.Prelude.{true}
+use Rattle.std.proofs.Common.{◌≡◌, true}
 use Rattle.groups.specs.Stored.{Between}
 use Rattle.groups.proofs.quick.part_between.Given as goal
 

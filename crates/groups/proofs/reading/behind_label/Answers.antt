@@ -1,12 +1,9 @@
 -- Each answer is the definition at the tests that led to it.
 use Rattle.groups.proofs.Walks.{check_front}
-use Rattle.std.specs.Prelude.{Err}
+use Rattle.std.proofs.Common.{Err, length-take, ◌∙◌, ap, sym, arith}
 use Rattle.groups.proofs.Telling.{told_listed, told_nowhere}
 use Rattle.groups.proofs.Laws.Places.{behind_checked, behind_listed, behind_open, behind_short, behind_unlisted}
 use Rattle.groups.specs.declared.Refusal.TheVariants.{CheckWrong, LabelUnknown, Misshapen}
-use lib.ListN.{length-take}
-use mathlib.Core.Path.{◌∙◌, ap, sym}
-use native.Mathlib.Omega.{arith}
 use Rattle.groups.proofs.reading.behind_label.Goals as goal
 
 pub returns-then-n-lt2 : goal.returns-then-n-lt2

@@ -4,8 +4,7 @@ use Rattle.groups.proofs.Views.{fit_right, fit_wrong}
 use Rattle.groups.proofs.Laws.Groups.{checked_right}
 use Rattle.groups.specs.Inside.{fields_in}
 use Rattle.groups.specs.Stored.{rule_of}
-use Rattle.std.specs.Prelude.{Ok}
-use Rattle.std.proofs.Common.{◌∙◌, ap, sym}
+use Rattle.std.proofs.Common.{Ok, ◌∙◌, ap, sym}
 use Rattle.groups.proofs.reading.finish.Goals as goal
 
 pub returns-in-Err : goal.returns-in-Err

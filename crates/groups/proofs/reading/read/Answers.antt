@@ -1,15 +1,11 @@
 -- Each answer is the definition at the tests that led to it.
-use Prim.Native.Nat.{◌+◌, ℕ}
+use Rattle.std.proofs.Common.{◌+◌, ℕ, Err, length-take, ◌∙◌, ap, subst, arith}
 use Rattle.groups.proofs.Walks.{front_summed, starts_with, to_end}
 use Rattle.groups.specs.Conditions.{first_at}
 use Rattle.groups.specs.Inside.{ContentWalk}
-use Rattle.std.specs.Prelude.{Err}
 use Rattle.groups.proofs.Telling.{told_cut, told_nowhere}
 use Rattle.groups.specs.declared.Refusal.TheVariants.{Misshapen, TooLong}
 use Rattle.groups.proofs.Laws.Places.{read_long, read_uncut, read_unlabelled}
-use lib.ListN.{length-take}
-use mathlib.Core.Path.{◌∙◌, ap, subst}
-use native.Mathlib.Omega.{arith}
 use Rattle.groups.proofs.reading.read.Goals as goal
 
 pub returns-then-n-gt128 : goal.returns-then-n-gt128

@@ -1,6 +1,5 @@
 -- Each answer is the definition at the tests that led to it.
-use Rattle.std.proofs.Common.{◌∙◌, ap, sym, arith}
-use Rattle.std.specs.Prelude.{Bool}
+use Rattle.std.proofs.Common.{◌∙◌, ap, sym, arith, Bool}
 use Rattle.characters.specs.Answers.{pick}
 use Rattle.groups.specs.Judging.{stamp_span}
 use Rattle.groups.proofs.Laws.Places.{fields_plain, fields_short, fields_stamped, fields_unparted}

@@ -1,18 +1,11 @@
 -- Past the test of the digits, every test is that of the definition.
-use Prim.Native.Nat.{◌-◌, ℕ}
+use Rattle.std.proofs.Common.{◌-◌, ℕ, eq-eqb, le-leb, ne_eqb, eqb, drop, length, length-drop, take, true, List, ◌∙◌, ◌≡◌, sym, arith}
 use Rattle.characters.specs.Answers.{every}
 use Rattle.groups.proofs.Walks.{to_end, two_digits_at, wrong_none}
 use Rattle.groups.specs.Inside.{wrong_at}
 use Rattle.groups.specs.Kinds.{of_kind}
 use Rattle.groups.specs.Stamps.{two_digits, date_right}
 use Rattle.groups.specs.declared.table.Kind.TheVariants.{Digits}
-use borrow.Author.Tests.{eq-eqb, le-leb, ne_eqb}
-use lib.Dec.{eqb}
-use lib.ListN.{drop, length, length-drop, take}
-use mathlib.Core.Bool.{true}
-use mathlib.Core.List.{List}
-use mathlib.Core.Path.{◌∙◌, ◌≡◌, sym}
-use native.Mathlib.Omega.{arith}
 use Rattle.groups.proofs.stamps.date_right.Goals as goal
 
 -- what the code finds wrong behind the season tells whether all there are digits

@@ -1,10 +1,8 @@
 -- Each form of the table is that of its format: computed.
-use Rattle.std.proofs.Common.{arith}
+use Rattle.std.proofs.Common.{arith, ne_eqb, lit≤}
 use Rattle.characters.specs.Answers.{pick}
 use Rattle.groups.specs.Formats.{form_of}
 use Rattle.groups.specs.Stored.{form_in, numbered, under}
-use borrow.Author.Tests.{ne_eqb}
-use lib.Dec.{lit≤}
 use Rattle.groups.proofs.table.form_of.Goals as goal
 
 pub returns-in-0 : goal.returns-in-0

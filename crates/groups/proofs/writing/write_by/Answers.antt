@@ -1,6 +1,5 @@
 -- The rule takes the fields, or says why not.
-use Rattle.std.specs.Prelude.{length}
-use Rattle.std.proofs.Common.{sym}
+use Rattle.std.proofs.Common.{length, sym}
 use Rattle.std.proofs.lemmas.Result.{err_from_is_err_and}
 use Rattle.groups.proofs.Laying.{write_wrong, wrote_nothing}
 use Rattle.groups.proofs.Views.{fit_right, fit_wrong}

@@ -1,6 +1,5 @@
 -- The label is looked up, and its rule decides.
-use Rattle.std.proofs.Common.{sym, arith, length}
-use Rattle.std.proofs.Math.Seq.{take_all}
+use Rattle.std.proofs.Common.{sym, arith, length, take_all}
 use Rattle.groups.proofs.Laying.{listed_short, write_listed, write_unlisted, wrote_as, wrote_nothing}
 use Rattle.groups.specs.Inside.{fields_in}
 use Rattle.groups.proofs.writing.write_in.Goals as goal
