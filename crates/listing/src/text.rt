@@ -27,7 +27,8 @@ fn put_all(text: &mut Text, bytes: &[u8])
     text.try_extend_from_slice(bytes).unwrap();
 }
 
-// The digits of a number. Kept by hand: `write!` does not promise which bytes it lays, and the clause does.
+// The digits of a number. Kept by hand: `write!` to this text does not promise which bytes it lays, as the clause does, and
+// `io::decimal` lays them into a text of twenty from which they are then copied, which is no plainer.
 #[tactic(auto, unfolding(crate::specs::Listing::digits, characters::specs::Answers::pick))]
 fn put_number(text: &mut Text, number: u8)
     requires { array_vec_len text.old + 3 ≤ LONGEST }

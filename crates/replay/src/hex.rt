@@ -1,5 +1,6 @@
 // Bytes in hex.
-// Kept by hand: with `{:02x}` for each byte the program takes 8.2 million instructions on its stdin, and so it takes 2.8.
+// Kept by hand: a `Display` with `{:02x}` takes three times the instructions of the whole program, and `io::hex` lays digits into
+// a text of sixteen from which they are then copied; neither is plainer than these two digits.
 ghost use Rattle.std.specs.Prelude.{◌∷◌, ◌≡◌, ◌<◌, OnOk};
 ghost use Rattle.io.specs.Digits.{hex_digit_ascii};
 ghost use Rattle.streams.specs.Page.{with_bytes};

@@ -37,6 +37,17 @@ pub enum Stop {
     Closed,
 }
 
+impl fmt::Display for Stop {
+    fn fmt<W: fmt::Write>(&self, f: &mut fmt::Formatter<W>) -> fmt::Result {
+        match self {
+            Stop::UnknownLetter => write!(f, "unknown letter"),
+            Stop::Overlong => write!(f, "length over 4096"),
+            Stop::CutShort => write!(f, "cut short"),
+            Stop::Closed => write!(f, "output closed"),
+        }
+    }
+}
+
 impl From<Stopped> for Stop {
     fn from(_stopped: Stopped) -> Stop {
         Stop::Closed
@@ -208,17 +219,6 @@ impl<'a> Desk<'a> {
         }
     }
 
-    // The line of what is no record: which one, where it starts, and why.
-    fn refuse(&mut self, record: u64, start: usize, stop: Stop) -> fmt::Result {
-        let why = match stop {
-            Stop::UnknownLetter => "unknown letter",
-            Stop::Overlong => "length over 4096",
-            Stop::CutShort => "cut short",
-            Stop::Closed => return Err(fmt::Error),
-        };
-        writeln!(self.page, "? {record} {start} {why}")
-    }
-
     // Replays the records up to the end, or to what is none. A proved loop has to end, and nothing says that an input does:
     // this one ends after more records than any input has.
     fn replay_all(&mut self) -> Result<(), Stopped> {
@@ -231,9 +231,14 @@ impl<'a> Desk<'a> {
             let Some(letter) = self.input.next_byte() else {
                 break;
             };
-            if let Err(stop) = self.replay(letter) {
-                self.refuse(record, start, stop).map_err(|_| Stopped)?;
-                break;
+            match self.replay(letter) {
+                Ok(()) => {}
+                Err(Stop::Closed) => return Err(Stopped),
+                Err(stop) => {
+                    // The line of what is no record: which one, where it starts, and why.
+                    writeln!(self.page, "? {record} {start} {stop}")?;
+                    break;
+                }
             }
         }
         self.page.flush()

@@ -11,12 +11,19 @@ ghost use Rattle.std.specs.Prelude.{length, ◌≡◌, IsOk};
 ghost use Rattle.streams.specs.Streams.{Moved};
 
 pub use page::Page;
-use std::io;
 use std::io::{ErrorKind, Read};
+use std::{fmt, io};
 
 // Why a program stops: something could not be read or written. What there is to say of that has been said.
 #[derive(Clone, Copy, Debug, PartialEq, Eq)]
 pub struct Stopped;
+
+// So that `?` on what is written to a page stops the program.
+impl From<fmt::Error> for Stopped {
+    fn from(_error: fmt::Error) -> Stopped {
+        Stopped
+    }
+}
 
 // Standard input and output, and the name of the program that what is said begins with.
 #[derive(Clone, Copy)]

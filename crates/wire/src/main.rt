@@ -44,13 +44,13 @@ fn put(page: &mut Page, wire: u8) -> fmt::Result {
 fn show(page: &mut Page, bytes: &[u8]) -> Result<(), Stopped> {
     for wire in bytes {
         page.make_room(LONGEST)?;
-        put(page, *wire).map_err(|_| Stopped)?;
+        put(page, *wire)?;
     }
     page.flush()
 }
 
 // Shows all that comes. A proved loop has to end, and nothing says that an input does: this one ends after more turns than
-// any run takes.
+// any run takes. Kept beside the like loop of `listing`, which says why.
 fn show_all(streams: Streams) -> Result<(), Stopped> {
     let mut page = Page::new(streams);
     let mut piece = io::buffer();

@@ -68,12 +68,12 @@ fn put_group(page: &mut Page, mode: u8, content: &[u8]) -> Result<(), Stopped> {
     let number = groups::number_of(judgement);
     match judgement {
         Ok(fields) => {
-            write!(page, "{number} 0").map_err(|_| Stopped)?;
+            write!(page, "{number} 0")?;
             put_fields(page, fields, content)?;
             let again = comes_again(mode, fields, content);
             page.put_all(if again { b"\nsame\n" } else { b"\nother\n" })
         }
-        Err(fault) => writeln!(page, "{number} {}", fault.place).map_err(|_| Stopped),
+        Err(fault) => Ok(writeln!(page, "{number} {}", fault.place)?),
     }
 }
 
