@@ -1,14 +1,12 @@
 -- Data between two texts: where a picture takes, in each place, all that lies between the characters of the texts, it takes
 -- data that lie between the texts.
-use Rattle.std.proofs.Common.{◌≡◌, refl, ap, subst, ◌∙◌, Bool, true, false, ◌&&◌, List, [], ◌∷◌, ℕ, zero, suc, ◌+◌, ◌-◌, ◌<◌, ◌≤◌, arith, T, eqb, leb, eqb→eq, leb→le, le→leb, length, get_or, take, drop, length-drop}
+use Rattle.std.proofs.Common.{◌≡◌, refl, ap, subst, Bool, true, false, ◌&&◌, List, [], ◌∷◌, ℕ, zero, suc, ◌+◌, ◌-◌, ◌<◌, ◌≤◌, arith, T, eqb, leb, eqb→eq, leb→le, le→leb, length, drop, length-drop}
 use Rattle.std.proofs.Math.Facts.{and_yes, yes_and}
-use Rattle.characters.specs.Answers.{pick, by_pick, from_true, is_true}
+use Rattle.characters.specs.Answers.{pick, by_pick}
 use Rattle.groups.specs.Forms.{Form, takes, last_of, matches, has_length, fits, some_fits}
 use Rattle.groups.specs.Formats.{form_of, forms}
 use Rattle.groups.specs.Stored.{format_at, formats_from, Between, Bounded}
-use Rattle.groups.proofs.Laws.Tests.{split}
 use Rattle.groups.proofs.Laws.Forms.{or_left, or_right}
-use Rattle.groups.proofs.Walks.{to_end}
 
 -- ---- One place
 
@@ -107,26 +105,6 @@ bounded_fits f low high d t b =
     (yes_and (leb f.least n) (leb n (length p)) (le→leb f.least n b.enough) (le→leb n (length p) (omega (arith, b.room))))
     (covered_match (last_of n p) (last_of n low) (last_of n high) d (rw (← same, ← also) ends) (omega (arith, b.room)) b.between)
 
--- the parts of the texts from a place on are their ends
-pub ends_bounded : (least : ℕ) (low high d : List ℕ) → length low ≡ length high → least ≤ length d → length d ≤ length low
-    → Between
-    (take (length low - (length low - length d)) (drop (length low - length d) low))
-    (take (length high - (length low - length d)) (drop (length low - length d) high))
-    d 0 (length d)
-    → Bounded least low high d
-ends_bounded least low high d e h k b =
-    let n = length d in
-    let s = length low - n in
-    let x : take (length low - s) (drop s low) ≡ last_of n low = to_end s low in
-    let y : take (length high - s) (drop s high) ≡ last_of n high = to_end s high ∙ ap (λ (j : ℕ). drop (j - n) high) e in
-    record {
-      enough = h;
-      room = k;
-      between =
-          subst (λ (q : List ℕ). Between (last_of n low) q d 0 n) y
-          (subst (λ (q : List ℕ). Between q (take (length high - s) (drop s high)) d 0 n) x b);
-    }
-
 -- data that one of some forms takes
 pub one_fits : (first count i : ℕ) (d : List ℕ) → i < count → T (fits (form_of (format_at (first + i))) d)
     → T (some_fits (forms (formats_from first count)) d)
@@ -139,21 +117,3 @@ one_fits first (suc count) (suc i) d h t =
     let e : first + suc i ≡ first + 1 + i = omega arith in
     or_right (fits (form_of (format_at first)) d) (some_fits (forms (formats_from (first + 1) count)) d)
     (one_fits (first + 1) count i d (omega arith) (rw e at t))
-
--- ---- Places, as the loops go over them
-
-module _ (low high d : List ℕ) where
-  pub between_none : (from : ℕ) → Between low high d from from
-  between_none from i h k = absurd (omega arith)
-
-  pub between_joined : (a b c e : ℕ) → c ≤ b → Between low high d a b → Between low high d c e → Between low high d a e
-  between_joined a b c e h x y i f g = split b i (λ k. y i (omega arith) g) (λ k. x i f k)
-
-  -- one more, where the tests so far came out as `so_far`
-  pub between_on : (from i : ℕ) (so_far : Bool) → (so_far ≡ true → Between low high d from i)
-      → (so_far && leb (get_or low i 0) (get_or d i 0) && leb (get_or d i 0) (get_or high i 0)) ≡ true → Between low high d from (i + 1)
-  between_on from i so_far before e =
-      let (u, v) = and_yes (so_far && leb (get_or low i 0) (get_or d i 0)) (leb (get_or d i 0) (get_or high i 0)) (from_true e) in
-      let (w, x) = and_yes so_far (leb (get_or low i 0) (get_or d i 0)) u in
-      between_joined from i i (i + 1) (omega arith) (before (is_true w))
-      (λ k f g. let z : k ≡ i = omega arith in rw z (leb→le _ _ x, leb→le _ _ v))

@@ -1,9 +1,9 @@
 -- Labels as numbers: how the code makes them, and that they tell one label from another.
-use Rattle.std.proofs.Common.{◌≡◌, refl, sym, List, [], ◌∷◌, reverse, ℕ, zero, suc, ◌+◌, ◌*◌, ◌-◌, ◌/◌, ◌^◌, ◌<◌, ◌≤◌, not-suc-le-zero, le_of_suc-le-suc, mul-le-mul_right, mul_assoc, suc-mul, pow-suc, arith, length, get_or, take, length-take, get_or-take}
+use Rattle.std.proofs.Common.{◌≡◌, refl, sym, List, [], ◌∷◌, reverse, ℕ, zero, suc, ◌+◌, ◌*◌, ◌-◌, ◌/◌, ◌^◌, ◌<◌, ◌≤◌, mul-le-mul_right, mul_assoc, suc-mul, pow-suc, arith, length, get_or, take}
 use mathlib.Core.List.{reverse-cons}
 use Rattle.std.specs.List.{fold}
 use Rattle.std.proofs.lemmas.List.Sums.{fold_push}
-use Rattle.groups.specs.Packed.{packed, tail_of}
+use Rattle.groups.specs.Packed.{packed}
 use Rattle.groups.proofs.Laws.Tests.{split}
 use Rattle.groups.proofs.Laws.Packed.{Bytes, below}
 
@@ -12,11 +12,6 @@ bytes_take zero l b i = omega arith
 bytes_take (suc n) [] b i = omega arith
 bytes_take (suc n) (x ∷ l) b zero = b 0
 bytes_take (suc n) (x ∷ l) b (suc i) = bytes_take n l (λ j. b (suc j)) i
-
-past_end : (l : List ℕ) (i : ℕ) → length l ≤ i → get_or l i 0 ≡ 0
-past_end [] i h = refl
-past_end (x ∷ l) zero h = absurd (not-suc-le-zero h)
-past_end (x ∷ l) (suc i) h = past_end l i (le_of_suc-le-suc h)
 
 -- all but the last byte
 pub packed_less : (n : ℕ) (l : List ℕ) → Bytes l → packed (suc n) l / 256 ≡ packed n l
@@ -85,13 +80,6 @@ folded_key (x ∷ l) b =
     let less = packed_less 7 l behind in
     let on = fold_push (λ (key byte : ℕ). key / 256 + byte * 72057594037927936) 0 (reverse l) x in
     rw (reverse-cons x l) (omega (arith, on, folded_key l behind, less))
-
--- the length and the ninth byte
-pub tail_of_few : (n : ℕ) (l : List ℕ) → n ≤ length l → n < 9 → n * 256 ≡ tail_of (take n l)
-tail_of_few n l h k = simp (length-take) (omega (arith, past_end (take n l) 8 (simp length-take (omega arith))))
-
-pub tail_of_nine : (n : ℕ) (l : List ℕ) → n ≤ length l → 9 ≤ n → n * 256 + get_or l 8 0 ≡ tail_of (take n l)
-tail_of_nine n l h k = rw (get_or-take n l 8 0 k) (simp length-take (omega arith))
 
 -- two numbers with the same lower part have the same upper part
 same_top : (m x y p q : ℕ) → p < m → q < m → x * m + p ≡ y * m + q → x ≡ y

@@ -1,5 +1,5 @@
 -- Laying bytes into a buffer, piece by piece, and the tests of the writer.
-use Rattle.std.proofs.Common.{◌≡◌, refl, sym, ap, ◌∙◌, subst, Bool, true, false, List, [], ◌∷◌, ◌++◌, append_assoc, map, ℕ, suc, ◌+◌, ◌<◌, ◌≤◌, add-one, arith, T, Result, Ok, Err, length, drop, get_or, set, length-append, drop_of_length-le, drop-cons, le-leb}
+use Rattle.std.proofs.Common.{◌≡◌, refl, sym, ap, ◌∙◌, subst, Bool, true, false, List, [], ◌∷◌, ◌++◌, append_assoc, map, ℕ, suc, ◌+◌, ◌<◌, ◌≤◌, arith, T, Result, Ok, Err, length, drop, set, length-append, le-leb}
 use Rattle.std.proofs.lemmas.Bool.{lt-leb}
 use Rattle.std.proofs.lemmas.List.{length-map, map-append}
 use Rattle.std.proofs.lemmas.List.Edits.{sets, sets-eq}
@@ -35,19 +35,6 @@ sets_append b i (x ∷ v) w =
 
 sets_front : (b w : List ℕ) → length w ≤ length b → sets b 0 w ≡ w ++ drop (length w) b
 sets_front b w h = sets-eq w b 0 (omega arith) ∙ ap (λ (n : ℕ). w ++ drop n b) (let e : 0 + length w ≡ length w = omega arith in e)
-
-pub sets_start : (b : List ℕ) (at : ℕ) (s : List ℕ) → sets b at (map wire_byte_of s) ≡ sets b (at + 0) (map wire_byte_of s)
-sets_start b at s = ap (λ (n : ℕ). sets b n (map wire_byte_of s)) (let e : at ≡ at + 0 = omega arith in e)
-
--- one byte of a text
-pub sets_on : (b : List ℕ) (at i : ℕ) (s : List ℕ) → i < length s
-    → sets b (at + i) (map wire_byte_of (drop i s)) ≡ sets (set b (at + i) (wire_byte_of (get_or s i 0))) (at + (i + 1)) (map wire_byte_of (drop (i + 1) s))
-sets_on b at i s h =
-    let e : at + (i + 1) ≡ suc (at + i) = omega arith in
-    rw (e, add-one i, drop-cons s i 0 h)
-
-pub sets_over : (b : List ℕ) (at i : ℕ) (s : List ℕ) → length s ≤ i → sets b (at + i) (map wire_byte_of (drop i s)) ≡ b
-sets_over b at i s h = rw (drop_of_length-le s h)
 
 -- ---- Pieces laid one behind the other
 

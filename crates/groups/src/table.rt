@@ -336,6 +336,7 @@ pub(crate) struct Form(pub usize, pub usize, pub [u8; 21]);
 
 // The form of a number; one that takes nothing where there is none. Kept as a match: a constant array is laid out on the stack
 // wherever it is named (docs/DECISIONS.md, 48).
+#[tactic(auto, unfolding(crate::specs::Stored::form_in, crate::specs::Stored::numbered, crate::specs::Stored::under, crate::specs::Formats::form_of, characters::specs::Answers::pick))]
 pub(crate) fn form_of(number: usize) -> Form
     ensures { (form_in result ≡ form_of (format_at number)) × (result.1 ≤ 21) }
 {

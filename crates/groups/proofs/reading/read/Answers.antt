@@ -24,9 +24,6 @@ returns-then-at-lt1 c =
     (λ (s : ℕ). first_at s c.args.content.now) c.separator.ensures) c.if-n-gt128.false
     c.if-n-at.false c.if-at-lt1.true)
 
-pub slice_bounds-behind_label-end : goal.slice_bounds-behind_label-end
-slice_bounds-behind_label-end c = simp length-take (omega arith)
-
 pub behind_label-requires : goal.behind_label-requires
 behind_label-requires c = (
   rw (to_end (c.walk-walked.result.first + 1) c.args.content.now) (front_summed c.args.mode c.args.content.now _ _
