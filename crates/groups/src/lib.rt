@@ -88,6 +88,7 @@ pub fn judge(mode: u8, content: &[u8]) -> Result<Fields, Fault>
 }
 
 // The part of the caller's own bytes that a stretch names; the empty part at their start where it does not fit.
+// Kept as tests: tried as a chain of `get`s, its goal `returns`, where the part lies in memory, stayed open.
 pub fn part(content: &[u8], stretch: Stretch) -> &[u8]
     ensures { Part stretch content.entry result }
 {

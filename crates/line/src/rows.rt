@@ -125,7 +125,8 @@ fn add_eights(room: &mut [u8], bytes: &[u8]) -> usize
     count
 }
 
-// Adds the characters from a place on, one by one, and tells the place behind them.
+// Adds the characters from a place on, one by one, and tells the place behind them. The place is handed over, since what was
+// laid before it counts in the contract.
 fn add_rest(room: &mut [u8], bytes: &[u8], from: usize) -> usize
     requires { (from ≤ length bytes.now) × (length bytes.now ≤ length room.old) }
     ensures { LaysOn bytes.now from room.old result room.new }

@@ -64,6 +64,8 @@ pub(crate) fn moved(phase: Phase, symbol: Symbol) -> Move
     }
 }
 
+// Kept here and below with an arm for each symbol, where several give the same: each is a line of document 01, and stands so in
+// specs/Rules.antt.
 fn moved_outside(symbol: Symbol) -> Move
     ensures { result ≡ move Phase.Outside symbol }
 {

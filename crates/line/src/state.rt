@@ -8,6 +8,7 @@ use crate::rules::Phase;
 // read them again costs more than to take a byte.
 #[derive(Clone, Copy)]
 pub struct Line {
+    // The caller's number, known or not: each has its answer, so it is no `Mode` here.
     pub mode: u8,
     pub frame: u16,
     pub phase: Phase,

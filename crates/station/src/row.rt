@@ -7,6 +7,7 @@ use line::LineState;
 // The first waiting byte lies at `first`, and `count` bytes wait.
 #[derive(Clone, Copy)]
 pub struct Row {
+    // 0 where the line is closed. Kept as the number that it is in the caller's memory, where any other one stays as it is.
     pub opened: u8,
     pub state: LineState,
     pub first: u16,
