@@ -64,6 +64,10 @@ map_append f (x ∷ a) b = ap (λ (l : List ℕ). f x ∷ l) (map_append f a b)
 pub laid_length : {b₀ : List ℕ} {at : ℕ} {w : List ℕ} {n : ℕ} {b : List ℕ} → Laid b₀ at w n b → length b ≡ length b₀
 laid_length {b₀} {at} {w} h = ap length h.bytes ∙ length-sets b₀ at w
 
+pub laid_upto : (t : List ℕ) {b₀ : List ℕ} {at n : ℕ} {b : List ℕ} → Laid b₀ at (map wire_byte_of t) n b
+    → n ≡ at + length t
+laid_upto t {at = at} h = h.upto ∙ ap (λ (k : ℕ). at + k) (length-map t wire_byte_of)
+
 pub laid_then : {b₀ b b' : List ℕ} {at n n' : ℕ} {v w : List ℕ} → Laid b₀ at v n b → Laid b n w n' b'
     → Laid b₀ at (v ++ w) n' b'
 laid_then {b₀ = b₀} {at = at} {v = v} {w = w} h k =
@@ -75,9 +79,13 @@ laid_then {b₀ = b₀} {at = at} {v = v} {w = w} h k =
 pub laid_as : {b₀ b : List ℕ} {at n : ℕ} {v w : List ℕ} → Laid b₀ at v n b → v ≡ w → Laid b₀ at w n b
 laid_as {b₀ = b₀} {b = b} {at = at} {n = n} h e = subst (λ (w : List ℕ). Laid b₀ at w n b) e h
 
+-- in an equal buffer
+pub laid_there : {b₀ b b' : List ℕ} {at n : ℕ} {w : List ℕ} → b' ≡ b → Laid b₀ at w n b → Laid b₀ at w n b'
+laid_there {b₀ = b₀} {at = at} {n = n} {w = w} e h = subst (λ (b : List ℕ). Laid b₀ at w n b) (sym e) h
+
 -- the group, piece by piece
 pub group_pieces : (m : Mode) (l b : List ℕ) (x k : ℕ) → x ≡ separator m → k ≡ check m l b
-    → (wire_byte_of LF ∷ []) ++ (map wire_byte_of l ++ ((wire_byte_of x ∷ []) ++ (map wire_byte_of b ++ ((wire_byte_of x ∷ []) ++ ((wire_byte_of k ∷ []) ++ (wire_byte_of CR ∷ [])))))) ≡ on_the_wire (content m l b)
+    → (wire_byte_of LF ∷ []) ++ (map wire_byte_of l ++ ((wire_byte_of x ∷ []) ++ (map wire_byte_of b ++ (wire_byte_of x ∷ wire_byte_of k ∷ wire_byte_of CR ∷ [])))) ≡ on_the_wire (content m l b)
 unfolding on_the_wire content
 group_pieces m l b x k e f = rw (e, f) (simp (map_append, append_assoc))
 

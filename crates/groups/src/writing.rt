@@ -11,35 +11,52 @@ use crate::group::Group;
 use crate::table::{Mark, Rule};
 use crate::{Mode, Refusal, find, fitting, group, reading};
 
-fn put(buffer: &mut [u8], at: usize, code: u8) -> usize
-    requires { at < length buffer.old }
-    ensures { Laid buffer.old at (wire_byte_of code ∷ []) result buffer.new }
-{
-    buffer[at] = characters::wire_byte(code);
-    at + 1
+// What is put next goes to the place `at` of the lent buffer.
+#[derive(Drop)]
+struct Pen<'a> {
+    buffer: &'a mut [u8],
+    at: usize,
 }
 
-fn put_all(buffer: &mut [u8], at: usize, text: &[u8]) -> usize
-    requires { at + length text.now ≤ length buffer.old }
-    ensures { Laid buffer.old at (map wire_byte_of text.now) result buffer.new }
-{
-    for (i, code) in text.iter().enumerate() {
-        buffer[at + i] = characters::wire_byte(*code);
+impl Pen<'_> {
+    fn put(&mut self, text: &[u8])
+        requires { self.old.at + length text.now ≤ length self.old.buffer.now }
+        ensures same_buffer { self.new.buffer.ghost_name ≡ self.old.buffer.ghost_name }
+        ensures laid { Laid self.old.buffer.now self.old.at (map wire_byte_of text.now) self.new.at self.new.buffer.now }
+    {
+        let at = self.at;
+        for (i, code) in text.iter().enumerate() {
+            self.buffer[at + i] = characters::wire_byte(*code);
+        }
+        self.at = at + text.len();
     }
-    at + text.len()
-}
 
-// Stamp and separator, where the label has a stamp, and data.
-fn put_body(mode: Mode, mark: Mark, group: Group, buffer: &mut [u8], at: usize) -> usize
-    requires { at + length (body mode (is_stamped mark) group.stamp.now group.«data».now) ≤ length buffer.old }
-    ensures { Laid buffer.old at (map wire_byte_of (body mode (is_stamped mark) group.entry.stamp.now group.entry.«data».now)) result buffer.new }
-{
-    if mark.is_stamped() {
-        let behind_stamp = put_all(buffer, at, group.stamp);
-        let behind_separator = put(buffer, behind_stamp, mode.separator());
-        return put_all(buffer, behind_separator, group.data);
+    // Stamp and separator, where the label has a stamp, and data.
+    fn put_body(&mut self, mode: Mode, mark: Mark, group: Group)
+        requires { self.old.at + length (body mode (is_stamped mark) group.stamp.now group.«data».now) ≤ length self.old.buffer.now }
+        ensures same_buffer { self.new.buffer.ghost_name ≡ self.old.buffer.ghost_name }
+        ensures laid { Laid self.old.buffer.now self.old.at (map wire_byte_of (body mode (is_stamped mark) group.entry.stamp.now group.entry.«data».now)) self.new.at self.new.buffer.now }
+    {
+        if mark.is_stamped() {
+            self.put(group.stamp);
+            self.put(&[mode.separator()]);
+        }
+        self.put(group.data);
     }
-    put_all(buffer, at, group.data)
+
+    fn put_group(&mut self, mode: Mode, mark: Mark, group: Group)
+        requires { self.old.at + length group.label.now + length (body mode (is_stamped mark) group.stamp.now group.«data».now) + 5 ≤ length self.old.buffer.now }
+        ensures same_buffer { self.new.buffer.ghost_name ≡ self.old.buffer.ghost_name }
+        ensures laid { Laid self.old.buffer.now self.old.at (on_the_wire (content_of mode group.entry.label.now (body mode (is_stamped mark) group.entry.stamp.now group.entry.«data».now))) self.new.at self.new.buffer.now }
+    {
+        let separator = mode.separator();
+        let check = reading::check_from(mode, group.label, sum_of_body(mode, mark, group));
+        self.put(&[characters::LF]);
+        self.put(group.label);
+        self.put(&[separator]);
+        self.put_body(mode, mark, group);
+        self.put(&[separator, check, characters::CR]);
+    }
 }
 
 fn sum_of_body(mode: Mode, mark: Mark, group: Group) -> u8
@@ -51,21 +68,6 @@ fn sum_of_body(mode: Mode, mark: Mark, group: Group) -> u8
         return front.wrapping_add(data);
     }
     data
-}
-
-fn put_group(mode: Mode, mark: Mark, group: Group, buffer: &mut [u8]) -> usize
-    requires { length group.label.now + length (body mode (is_stamped mark) group.stamp.now group.«data».now) + 5 ≤ length buffer.old }
-    ensures { Laid buffer.old 0 (on_the_wire (content_of mode group.entry.label.now (body mode (is_stamped mark) group.entry.stamp.now group.entry.«data».now))) result buffer.new }
-{
-    let separator = mode.separator();
-    let check = reading::check_from(mode, group.label, sum_of_body(mode, mark, group));
-    let a = put(buffer, 0, characters::LF);
-    let b = put_all(buffer, a, group.label);
-    let c = put(buffer, b, separator);
-    let d = put_body(mode, mark, group, buffer, c);
-    let e = put(buffer, d, separator);
-    let f = put(buffer, e, check);
-    put(buffer, f, characters::CR)
 }
 
 // The group of these fields, by its label's rule.
@@ -87,7 +89,9 @@ fn write_right(mode: Mode, rule: Rule, group: Group, buffer: &mut [u8]) -> Resul
     if buffer.len() < size {
         return Err(Refusal::NoRoom);
     }
-    Ok(put_group(mode, rule.mark(), group, buffer))
+    let mut pen = Pen { buffer, at: 0 };
+    pen.put_group(mode, rule.mark(), group);
+    Ok(pen.at)
 }
 
 pub(crate) fn write_in(mode: Mode, group: Group, buffer: &mut [u8]) -> Result<usize, Refusal>

@@ -1,9 +1,8 @@
 -- There is room for all, or nothing is stored.
-use Rattle.groups.proofs.Laying.{all_short, body_size, laid_marked, wire_size, write_done, write_tight, wrote_laid, wrote_nothing}
+use Rattle.std.proofs.Common.{rules, length, arith}
+use Rattle.groups.proofs.Laying.{all_short, body_size, laid_marked, laid_there, wire_size, write_done, write_tight, wrote_laid, wrote_nothing}
 use Rattle.groups.specs.Groups.{group_of}
 use Rattle.groups.specs.Stored.{rule_of}
-use lib.ListN.{length}
-use native.Mathlib.Omega.{arith}
 use Rattle.groups.proofs.writing.write_right.Goals as goal
 
 pub overflow_add-size : goal.overflow_add-size
@@ -67,4 +66,5 @@ returns c =
       c.stamp_span-span.ensures.0,
       c.if-buffer-size.false,
     ))
-    (laid_marked c.args.mode c.args.group.label.now c.args.group.stamp.now c.args.group.«data».now c.args.buffer.now c.mark.ensures c.put_group.ensures)
+    (laid_marked c.args.mode c.args.group.label.now c.args.group.stamp.now c.args.group.«data».now c.args.buffer.now c.mark.ensures
+    (laid_there (search rules) c.put_group.ensures.laid))
