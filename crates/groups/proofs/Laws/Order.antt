@@ -2,7 +2,7 @@
 -- order and any rows, and then of labels by their bytes.
 use Rattle.std.specs.Prelude.{◌≡◌, ◌↔◌, ◌⊎◌, Bool, true, false, ◌&&◌, ltb, leb, length, get_or, take, drop}
 use Rattle.std.proofs.Math.Path.{refl, ap, subst}
-use Rattle.std.proofs.Common.{sym, ◌∙◌, inl, inr, ⊎_elim, le_of_suc-le-suc, not-suc-le-zero, arith, leb→le, length-take, length-drop, get_or-take, take_all, eq-eqb, ne_eqb, ltb-true, lt-ltb}
+use Rattle.std.proofs.Common.{sym, ◌∙◌, inl, inr, ⊎_elim, le_of_suc-le-suc, not-suc-le-zero, arith, leb→le, length-take, length-drop, eq-eqb, ne_eqb, ltb-true, lt-ltb}
 use Rattle.std.proofs.Math.Option.{Option, none, some}
 use mathlib.Core.List.{List, [], ◌∷◌, ◌++◌}
 use Prim.Native.Nat.{ℕ, zero, suc, ◌^◌, ◌≤◌, ◌<◌}
@@ -14,7 +14,7 @@ use Rattle.characters.specs.Answers.{every, every_at, is_true, from_true, pick}
 use Rattle.groups.specs.Formats.{Rule}
 use Rattle.groups.specs.Table.{Entry, historic_rows, standard_rows, business_rows, rows, same, lookup}
 use Rattle.groups.specs.Order.{before, Before, ordered, in_order, middle, label_at, halving}
-use Rattle.groups.proofs.Laws.Tests.{same→eq, equal_or, split}
+use Rattle.groups.proofs.Laws.Tests.{same→eq, equal_or}
 use Rattle.groups.proofs.Laws.Table.{found_passes}
 use Rattle.groups.specs.declared.Mode.{Mode}
 use Rattle.groups.specs.declared.Mode.TheVariants.{Historic, Standard, Business}
@@ -96,25 +96,6 @@ module _
         let l = every_at (λ y. lt (key x) (key y)) xs d o.0 i (le_of_suc-le-suc h) in
         rw (no_test {b = is x} (λ s. n (subst (λ (z : K). T (lt z (key (get_or xs i d)))) (only x s) l)))
         (rows_from xs i d o.1 (le_of_suc-le-suc h) n)
-
-    -- the rows from low on and before high: those before are too low, and those from high on too high
-    pub range : (xs : List A) (low high : ℕ) (d : A) → T (ordered lt key xs) → low < high → high ≤ length xs
-        → (1 ≤ low → T (lt k (key (get_or xs low d))) → ⊥) → (high < length xs → T (lt k (key (get_or xs high d))))
-        → first is value xs ≡ first is value (drop low (take high xs))
-    range xs low high d t h s below above = upper ∙ lower low h below
-      where
-        upper : first is value xs ≡ first is value (take high xs)
-        upper =
-            split (length xs) high
-            (λ g. ap (first is value) (sym (take_all high xs g)))
-            (λ g. rows_before xs high d t g (above g))
-
-        lower : (low : ℕ) → low < high → (1 ≤ low → T (lt k (key (get_or xs low d))) → ⊥)
-            → first is value (take high xs) ≡ first is value (drop low (take high xs))
-        lower zero h below = refl
-        lower (suc low) h below =
-            rows_from (take high xs) (suc low) d (ordered_take lt key xs high t) (simp length-take (omega arith))
-            (λ b. below (omega arith) (subst (λ (x : A). T (lt k (key x))) (get_or-take high xs (suc low) d h) b))
 
 -- ---- Labels by their bytes
 
