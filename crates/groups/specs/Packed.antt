@@ -1,9 +1,9 @@
 -- The rows of the table as numbers (`src/table.rt` says what stands where), and looking a label up by them. Contracts of private
 -- functions cite this, and of the statements `keys_as_bytes` alone; that the rows are those of `Table.antt` is computed in the
 -- proofs of `historic`, `standard` and `business`.
-use Rattle.std.specs.Prelude.{◌≡◌, Bool, ◌&&◌, List, [], ◌∷◌, ◌++◌, ℕ, zero, suc, ◌+◌, ◌*◌, ◌/◌, ◌%◌, ◌^◌, ◌≤◌, ◌<◌, eqb, ltb, take, length, get_or}
+use Rattle.std.specs.Prelude.{◌≡◌, ◌≢◌, Bool, ◌&&◌, List, [], ◌∷◌, ◌++◌, ℕ, zero, suc, ◌+◌, ◌*◌, ◌/◌, ◌%◌, ◌^◌, ◌≤◌, ◌<◌, eqb, leb, ltb, take, length, get_or, Option as StoredOption, Some, None}
 use Rattle.std.proofs.Math.Option.{Option, none, some}
-use Rattle.characters.specs.Answers.{pick}
+use Rattle.characters.specs.Answers.{every, pick}
 use Rattle.groups.specs.Formats.{Rule}
 use Rattle.groups.specs.Table.{Entry, rows, lookup}
 use Rattle.groups.specs.Order.{ordered}
@@ -61,21 +61,33 @@ entry_in m r = record { label = label_in r; rule = rule_in m r.2 }
 
 -- ---- Looking up
 
-abbrev pub is_named : ℕ → ℕ → Row → Bool
-is_named key tail r = eqb key r.0 && eqb tail r.1
-
--- what the rows, from the top, have under these numbers
-unfoldable pub number_in : ℕ → ℕ → List Row → Option ℕ
-number_in key tail [] = none
-number_in key tail (r ∷ more) = pick (is_named key tail r) (some r.2) (number_in key tail more)
+-- the numbers of a row are those of its label
+abbrev pub is_right : Row → Bool
+is_right r =
+    eqb r.0 (key_of (label_in r))
+    && eqb r.1 (tail_of (label_in r))
+    && leb (length (label_in r)) 9
+    && every (λ x. ltb x 256) (label_in r)
 
 -- each key is below all that follow it
 abbrev pub rising : List Row → Bool
-rising rows = ordered ltb (λ r. r.0) rows
+rising rs = ordered ltb (λ r. r.0) rs
 
--- of these rows this one alone can have the key
-abbrev pub Nearest : ℕ → List Row → Row → Type 0
-Nearest key rows r = (tail : ℕ) → number_in key tail rows ≡ number_in key tail (r ∷ [])
+-- a row of these that has the key
+pub record HasKey (rs : List Row) (key : ℕ) (r : Row) : Type 0 where
+  pub place : ℕ
+  pub inside : place < length rs
+  pub there : r ≡ get_or rs place r
+  pub has_key : r.0 ≡ key
+
+-- the row that has the key, or none where no row has it
+abbrev pub Finds : List Row → ℕ → StoredOption Row → Type 0
+Finds rs key None = (i : ℕ) (d : Row) → i < length rs → (get_or rs i d).0 ≢ key
+Finds rs key (Some r) = HasKey rs key r
+
+-- whether the row that has the key of a label is the label's: whether length and ninth byte are the same too
+abbrev pub is_named : ℕ → Row → Bool
+is_named tail r = eqb tail r.1
 
 -- a text that could be a label, by its length
 pub record Short (l : List ℕ) : Type 0 where
@@ -83,10 +95,11 @@ pub record Short (l : List ℕ) : Type 0 where
   pub not_empty : 1 ≤ length l
   pub at_most_nine : length l ≤ 9
 
--- what a row says of a label: its rule, if it is the label's
-abbrev pub rule_by : Mode → List ℕ → Row → Option Rule
-rule_by m l r = pick (is_named (key_of l) (tail_of l) r) (some (rule_in m r.2)) none
+-- what the row that has the key of a label says of it, if there is one
+abbrev pub rule_by : Mode → List ℕ → StoredOption Row → Option Rule
+rule_by m l None = none
+rule_by m l (Some r) = pick (is_named (tail_of l) r) (some (rule_in m r.2)) none
 
--- the row decides of every label of this key
-abbrev pub Decides : Mode → ℕ → Row → Type 0
+-- the row, or that there is none, decides of every label of this key
+abbrev pub Decides : Mode → ℕ → StoredOption Row → Type 0
 Decides m key r = (l : List ℕ) → Short l → key_of l ≡ key → lookup l (rows m) ≡ rule_by m l r

@@ -1,13 +1,12 @@
-// Looking a label up in its mode's list, which is sorted by bytes: the range of rows is halved until one is left (M-107).
+// Looking a label up in its mode's list, which is sorted by bytes: std halves the range of rows until one is left (M-107).
 //
 // A label is compared by its first eight bytes as one number, the first on top, so that the order of these keys is that of the
-// bytes; no two labels of a mode have the same. Of the row that is left, the length and the ninth byte are compared too.
+// bytes; no two labels of a mode have the same. Of the row with that key, the length and the ninth byte are compared too.
 ghost use Rattle.std.specs.Prelude.{◌≡◌, [], ◌∷◌, ◌+◌, ◌*◌, ◌/◌, ◌^◌, ◌-◌, ◌≤◌, ◌<◌, T as So, length, take};
 ghost use Rattle.groups.specs.Table.{lookup, rows};
 ghost use Rattle.groups.specs.Stored.{plain_rule, formed_rule, rule_of, rule_found};
 ghost use Rattle.groups.specs.Packed.{packed, key_of, tail_of, kind_in, mark_in, plain_in, formed_in, rule_in};
-ghost use Rattle.groups.specs.Packed.{is_named, rising, Nearest, Decides};
-ghost use Rattle.groups.specs.declared.Mode.TheVariants.{Historic, Standard, Business};
+ghost use Rattle.groups.specs.Packed.{is_named, rising, Finds, Decides};
 
 use crate::table::{Forms, Kind, Mark, Plain, Row, Rule};
 use crate::{Mode, table};
@@ -80,114 +79,6 @@ fn tail_of(text: &[u8], n: usize) -> u64
     n as u64 * 256 + text[8] as u64
 }
 
-// The row of nine that alone can have this key: the last whose key is not above it, or else the first.
-// Kept as tests against constants: one array a mode, lent and halved, takes 1.2 to 1.4 times the instructions
-// (docs/DECISIONS.md, 48).
-fn nearest(key: u64, rows: [Row; 9]) -> Row
-    requires { So (rising rows) }
-    ensures { Nearest key rows result }
-{
-    if key < rows[4].0 {
-        if key < rows[2].0 {
-            if key < rows[1].0 {
-                return rows[0];
-            }
-            return rows[1];
-        }
-        if key < rows[3].0 {
-            return rows[2];
-        }
-        return rows[3];
-    }
-    if key < rows[6].0 {
-        if key < rows[5].0 {
-            return rows[4];
-        }
-        return rows[5];
-    }
-    if key < rows[7].0 {
-        return rows[6];
-    }
-    if key < rows[8].0 {
-        return rows[7];
-    }
-    rows[8]
-}
-
-// The row that alone can have this key in the list of historic mode; so below, in the lists of the other modes.
-// Kept as three functions: each names the constants of its own mode, since an array of arrays is not read by constants (48).
-fn historic(key: u64) -> Row
-    ensures { Decides Historic key result }
-{
-    if key < table::HISTORIC_3[0].0 {
-        if key < table::HISTORIC_2[0].0 {
-            return nearest(key, table::HISTORIC_1);
-        }
-        return nearest(key, table::HISTORIC_2);
-    }
-    if key < table::HISTORIC_4[0].0 {
-        return nearest(key, table::HISTORIC_3);
-    }
-    nearest(key, table::HISTORIC_4)
-}
-
-fn standard(key: u64) -> Row
-    ensures { Decides Standard key result }
-{
-    if key < table::STANDARD_5[0].0 {
-        if key < table::STANDARD_3[0].0 {
-            if key < table::STANDARD_2[0].0 {
-                return nearest(key, table::STANDARD_1);
-            }
-            return nearest(key, table::STANDARD_2);
-        }
-        if key < table::STANDARD_4[0].0 {
-            return nearest(key, table::STANDARD_3);
-        }
-        return nearest(key, table::STANDARD_4);
-    }
-    if key < table::STANDARD_7[0].0 {
-        if key < table::STANDARD_6[0].0 {
-            return nearest(key, table::STANDARD_5);
-        }
-        return nearest(key, table::STANDARD_6);
-    }
-    if key < table::STANDARD_8[0].0 {
-        return nearest(key, table::STANDARD_7);
-    }
-    nearest(key, table::STANDARD_8)
-}
-
-fn business(key: u64) -> Row
-    ensures { Decides Business key result }
-{
-    if key < table::BUSINESS_5[0].0 {
-        if key < table::BUSINESS_3[0].0 {
-            if key < table::BUSINESS_2[0].0 {
-                return nearest(key, table::BUSINESS_1);
-            }
-            return nearest(key, table::BUSINESS_2);
-        }
-        if key < table::BUSINESS_4[0].0 {
-            return nearest(key, table::BUSINESS_3);
-        }
-        return nearest(key, table::BUSINESS_4);
-    }
-    if key < table::BUSINESS_7[0].0 {
-        if key < table::BUSINESS_6[0].0 {
-            return nearest(key, table::BUSINESS_5);
-        }
-        return nearest(key, table::BUSINESS_6);
-    }
-    if key < table::BUSINESS_8[0].0 {
-        return nearest(key, table::BUSINESS_7);
-    }
-    if key < table::BUSINESS_9[0].0 {
-        return nearest(key, table::BUSINESS_8);
-    }
-    nearest(key, table::BUSINESS_9)
-}
-
 // Kept as numbers in the rows: with fields of their own for kind and mark the line takes 1 to 5 % more instructions (48).
 fn kind_in(number: u64) -> Kind
     ensures { result ≡ kind_in number }
@@ -209,12 +100,11 @@ fn mark_in(number: u64) -> Mark
     }
 }
 
-// Whether a row is that of the label with this key and this tail.
-fn is_named(row: Row, key: u64, tail: u64) -> bool
-    ensures { result ≡ is_named key tail row }
+// Whether the row that has a label's key is the label's: whether length and ninth byte are the same too.
+fn is_named(row: Row, tail: u64) -> bool
+    ensures { result ≡ is_named tail row }
 {
-    let Row(row_key, row_tail, _) = row;
-    (key == row_key) & (tail == row_tail)
+    tail == row.1
 }
 
 // The rule that a row of modes 0 and 1 has.
@@ -240,14 +130,26 @@ fn forms(number: u64) -> Forms
     }
 }
 
-// The row that alone can have this key in the list of a mode.
-fn row_of(mode: Mode, key: u64) -> Row
+// The row that has this key, of rows in the order of their keys. It is generic in their number, since the compiler then knows
+// how often they are halved: over a slice of any length the line takes 5 to 8 % more instructions (docs/DECISIONS.md, 48).
+fn row_with<const N: usize>(rows: &[Row; N], key: u64) -> Option<Row>
+    requires { So (rising rows.now) }
+    ensures { Finds rows.now key result }
+{
+    match rows.binary_search_by_key(&key, |row| row.0) {
+        Ok(at) => Some(rows[at]),
+        Err(_) => None,
+    }
+}
+
+// The row that has this key in the list of a mode.
+fn row_of(mode: Mode, key: u64) -> Option<Row>
     ensures { Decides mode key result }
 {
     match mode {
-        Mode::Historic => historic(key),
-        Mode::Standard => standard(key),
-        Mode::Business => business(key),
+        Mode::Historic => row_with(&table::HISTORIC, key),
+        Mode::Standard => row_with(&table::STANDARD, key),
+        Mode::Business => row_with(&table::BUSINESS, key),
     }
 }
 
@@ -261,17 +163,19 @@ fn rule_in(mode: Mode, number: u64) -> Rule
     }
 }
 
+// No label has more bytes.
+const LONGEST: usize = 9;
+
 // The rule of a label, the first n bytes of a text, in a mode's list.
 pub(crate) fn find(mode: Mode, text: &[u8], n: usize) -> Option<Rule>
     requires { n ≤ length text.now }
     ensures { rule_found result ≡ lookup (take n text.now) (rows mode) }
 {
-    if n == 0 || 9 < n {
+    if n == 0 || LONGEST < n {
         return None;
     }
-    let key = key_of(text, n);
-    let row = row_of(mode, key);
-    if is_named(row, key, tail_of(text, n)) {
+    let row = row_of(mode, key_of(text, n))?;
+    if is_named(row, tail_of(text, n)) {
         Some(rule_in(mode, row.2))
     } else {
         None

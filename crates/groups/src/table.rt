@@ -6,8 +6,7 @@
 // mark, as the enums below have them, from 0 on; in mode 2, which has no stamps, two digits each for the smallest and the
 // largest length and for the number of the first form, and one for how many forms there are from that one on.
 //
-// The rows stand in arrays of nine, since of these the compiler makes comparisons with constants (docs/DECISIONS.md, 48). Rows
-// with the length 0 fill the last array of a mode: no label has it, and their keys rise behind all others.
+// The rows of a mode stand in the order of their keys, since they are halved to find one (`find.rt`).
 
 ghost use Rattle.std.specs.Prelude.{◌≡◌, ◌≤◌};
 ghost use Rattle.groups.specs.Formats.{form_of};
@@ -76,7 +75,7 @@ pub struct Forms {
 #[derive(Clone, Copy)]
 pub(crate) struct Row(pub u64, pub u64, pub u64);
 
-pub(crate) const HISTORIC_1: [Row; 9] = [
+pub(crate) static HISTORIC: [Row; 34] = [
     Row(0x4144434f00000000, 0x04_00, 0x0c_2_0), // ADCO
     Row(0x4144495231000000, 0x05_00, 0x03_0_0), // ADIR1
     Row(0x4144495232000000, 0x05_00, 0x03_0_0), // ADIR2
@@ -86,9 +85,6 @@ pub(crate) const HISTORIC_1: [Row; 9] = [
     Row(0x42425248434a4200, 0x07_00, 0x09_0_0), // BBRHCJB
     Row(0x42425248434a5200, 0x07_00, 0x09_0_0), // BBRHCJR
     Row(0x42425248434a5700, 0x07_00, 0x09_0_0), // BBRHCJW
-];
-
-pub(crate) const HISTORIC_2: [Row; 9] = [
     Row(0x42425248504a4200, 0x07_00, 0x09_0_0), // BBRHPJB
     Row(0x42425248504a5200, 0x07_00, 0x09_0_0), // BBRHPJR
     Row(0x42425248504a5700, 0x07_00, 0x09_0_0), // BBRHPJW
@@ -98,9 +94,6 @@ pub(crate) const HISTORIC_2: [Row; 9] = [
     Row(0x4843484300000000, 0x04_00, 0x09_0_0), // HCHC
     Row(0x4843485000000000, 0x04_00, 0x09_0_0), // HCHP
     Row(0x4848504843000000, 0x05_00, 0x01_2_0), // HHPHC
-];
-
-pub(crate) const HISTORIC_3: [Row; 9] = [
     Row(0x49494e5354000000, 0x05_00, 0x03_0_0), // IINST
     Row(0x49494e5354310000, 0x06_00, 0x03_0_0), // IINST1
     Row(0x49494e5354320000, 0x06_00, 0x03_0_0), // IINST2
@@ -110,9 +103,6 @@ pub(crate) const HISTORIC_3: [Row; 9] = [
     Row(0x494d415832000000, 0x05_00, 0x03_0_0), // IMAX2
     Row(0x494d415833000000, 0x05_00, 0x03_0_0), // IMAX3
     Row(0x49534f5553430000, 0x06_00, 0x02_0_0), // ISOUSC
-];
-
-pub(crate) const HISTORIC_4: [Row; 9] = [
     Row(0x4d4f544445544154, 0x08_00, 0x06_2_0), // MOTDETAT
     Row(0x4f50544152494600, 0x07_00, 0x04_2_0), // OPTARIF
     Row(0x5041505000000000, 0x04_00, 0x05_0_0), // PAPP
@@ -120,11 +110,9 @@ pub(crate) const HISTORIC_4: [Row; 9] = [
     Row(0x504d415800000000, 0x04_00, 0x05_0_0), // PMAX
     Row(0x50504f5400000000, 0x04_00, 0x02_2_0), // PPOT
     Row(0x5054454300000000, 0x04_00, 0x04_2_0), // PTEC
-    Row(0xfffffffffffffff1, 0, 0), // none
-    Row(0xfffffffffffffff2, 0, 0), // none
 ];
 
-pub(crate) const STANDARD_1: [Row; 9] = [
+pub(crate) static STANDARD: [Row; 71] = [
     Row(0x4144534300000000, 0x04_00, 0x0c_2_0), // ADSC
     Row(0x434341494e000000, 0x05_00, 0x05_0_1), // CCAIN
     Row(0x434341494e2d3100, 0x07_00, 0x05_0_1), // CCAIN-1
@@ -134,9 +122,6 @@ pub(crate) const STANDARD_1: [Row; 9] = [
     Row(0x44504d3100000000, 0x04_00, 0x02_0_2), // DPM1
     Row(0x44504d3200000000, 0x04_00, 0x02_0_2), // DPM2
     Row(0x44504d3300000000, 0x04_00, 0x02_0_2), // DPM3
-];
-
-pub(crate) const STANDARD_2: [Row; 9] = [
     Row(0x4541495400000000, 0x04_00, 0x09_0_0), // EAIT
     Row(0x4541534430310000, 0x06_00, 0x09_0_0), // EASD01
     Row(0x4541534430320000, 0x06_00, 0x09_0_0), // EASD02
@@ -146,9 +131,6 @@ pub(crate) const STANDARD_2: [Row; 9] = [
     Row(0x4541534630320000, 0x06_00, 0x09_0_0), // EASF02
     Row(0x4541534630330000, 0x06_00, 0x09_0_0), // EASF03
     Row(0x4541534630340000, 0x06_00, 0x09_0_0), // EASF04
-];
-
-pub(crate) const STANDARD_3: [Row; 9] = [
     Row(0x4541534630350000, 0x06_00, 0x09_0_0), // EASF05
     Row(0x4541534630360000, 0x06_00, 0x09_0_0), // EASF06
     Row(0x4541534630370000, 0x06_00, 0x09_0_0), // EASF07
@@ -158,9 +140,6 @@ pub(crate) const STANDARD_3: [Row; 9] = [
     Row(0x4541535400000000, 0x04_00, 0x09_0_0), // EAST
     Row(0x4552513100000000, 0x04_00, 0x09_0_0), // ERQ1
     Row(0x4552513200000000, 0x04_00, 0x09_0_0), // ERQ2
-];
-
-pub(crate) const STANDARD_4: [Row; 9] = [
     Row(0x4552513300000000, 0x04_00, 0x09_0_0), // ERQ3
     Row(0x4552513400000000, 0x04_00, 0x09_0_0), // ERQ4
     Row(0x46504d3100000000, 0x04_00, 0x02_0_2), // FPM1
@@ -170,9 +149,6 @@ pub(crate) const STANDARD_4: [Row; 9] = [
     Row(0x49524d5332000000, 0x05_00, 0x03_0_0), // IRMS2
     Row(0x49524d5333000000, 0x05_00, 0x03_0_0), // IRMS3
     Row(0x4c54415246000000, 0x05_00, 0x10_2_0), // LTARF
-];
-
-pub(crate) const STANDARD_5: [Row; 9] = [
     Row(0x4d53473100000000, 0x04_00, 0x20_2_0), // MSG1
     Row(0x4d53473200000000, 0x04_00, 0x10_2_0), // MSG2
     Row(0x4e47544600000000, 0x04_00, 0x10_2_0), // NGTF
@@ -182,9 +158,6 @@ pub(crate) const STANDARD_5: [Row; 9] = [
     Row(0x50434f5550000000, 0x05_00, 0x02_0_0), // PCOUP
     Row(0x504a4f5552462b31, 0x08_00, 0x62_2_0), // PJOURF+1
     Row(0x50504f494e544500, 0x07_00, 0x62_2_0), // PPOINTE
-];
-
-pub(crate) const STANDARD_6: [Row; 9] = [
     Row(0x5052454600000000, 0x04_00, 0x02_0_0), // PREF
     Row(0x50524d0000000000, 0x03_00, 0x0e_2_0), // PRM
     Row(0x52454c4149530000, 0x06_00, 0x03_0_0), // RELAIS
@@ -194,9 +167,6 @@ pub(crate) const STANDARD_6: [Row; 9] = [
     Row(0x53494e5354533200, 0x07_00, 0x05_0_0), // SINSTS2
     Row(0x53494e5354533300, 0x07_00, 0x05_0_0), // SINSTS3
     Row(0x534d4158494e0000, 0x06_00, 0x05_0_1), // SMAXIN
-];
-
-pub(crate) const STANDARD_7: [Row; 9] = [
     Row(0x534d4158494e2d31, 0x08_00, 0x05_0_1), // SMAXIN-1
     Row(0x534d4158534e0000, 0x06_00, 0x05_0_1), // SMAXSN
     Row(0x534d4158534e2d31, 0x08_00, 0x05_0_1), // SMAXSN-1
@@ -206,9 +176,6 @@ pub(crate) const STANDARD_7: [Row; 9] = [
     Row(0x534d4158534e322d, 0x09_31, 0x05_0_1), // SMAXSN2-1
     Row(0x534d4158534e3300, 0x07_00, 0x05_0_1), // SMAXSN3
     Row(0x534d4158534e332d, 0x09_31, 0x05_0_1), // SMAXSN3-1
-];
-
-pub(crate) const STANDARD_8: [Row; 9] = [
     Row(0x5354474500000000, 0x04_00, 0x08_1_0), // STGE
     Row(0x554d4f5931000000, 0x05_00, 0x03_0_1), // UMOY1
     Row(0x554d4f5932000000, 0x05_00, 0x03_0_1), // UMOY2
@@ -217,10 +184,9 @@ pub(crate) const STANDARD_8: [Row; 9] = [
     Row(0x55524d5332000000, 0x05_00, 0x03_0_0), // URMS2
     Row(0x55524d5333000000, 0x05_00, 0x03_0_0), // URMS3
     Row(0x5654494300000000, 0x04_00, 0x02_2_0), // VTIC
-    Row(0xfffffffffffffff1, 0, 0), // none
 ];
 
-pub(crate) const BUSINESS_1: [Row; 9] = [
+pub(crate) static BUSINESS: [Row; 75] = [
     Row(0x4144530000000000, 0x03_00, 0x0c_0c_1a_1), // ADS
     Row(0x434f4e4649470000, 0x06_00, 0x04_05_0a_2), // CONFIG
     Row(0x4441544500000000, 0x04_00, 0x11_11_01_1), // DATE
@@ -230,9 +196,6 @@ pub(crate) const BUSINESS_1: [Row; 9] = [
     Row(0x4441544550413400, 0x07_00, 0x11_11_01_1), // DATEPA4
     Row(0x4441544550413500, 0x07_00, 0x11_11_01_1), // DATEPA5
     Row(0x4441544550413600, 0x07_00, 0x11_11_01_1), // DATEPA6
-];
-
-pub(crate) const BUSINESS_2: [Row; 9] = [
     Row(0x4465625000000000, 0x04_00, 0x11_11_01_1), // DebP
     Row(0x446562502d310000, 0x06_00, 0x11_11_01_1), // DebP-1
     Row(0x446562502d315f32, 0x08_00, 0x11_11_01_1), // DebP-1_2
@@ -242,9 +205,6 @@ pub(crate) const BUSINESS_2: [Row; 9] = [
     Row(0x4541505f69000000, 0x05_00, 0x04_0a_0e_1), // EAP_i
     Row(0x4541505f73000000, 0x05_00, 0x04_0a_0e_1), // EAP_s
     Row(0x45415f6900000000, 0x04_00, 0x03_09_02_1), // EA_i
-];
-
-pub(crate) const BUSINESS_3: [Row; 9] = [
     Row(0x45415f7300000000, 0x04_00, 0x03_09_02_1), // EA_s
     Row(0x45522b502d315f69, 0x08_00, 0x06_0c_0f_1), // ER+P-1_i
     Row(0x45522b502d315f73, 0x08_00, 0x06_0c_0f_1), // ER+P-1_s
@@ -254,9 +214,6 @@ pub(crate) const BUSINESS_3: [Row; 9] = [
     Row(0x45522b5f73000000, 0x05_00, 0x05_0b_03_1), // ER+_s
     Row(0x45522d502d315f69, 0x08_00, 0x06_0c_0f_1), // ER-P-1_i
     Row(0x45522d502d315f73, 0x08_00, 0x06_0c_0f_1), // ER-P-1_s
-];
-
-pub(crate) const BUSINESS_4: [Row; 9] = [
     Row(0x45522d505f690000, 0x06_00, 0x06_0c_0f_1), // ER-P_i
     Row(0x45522d505f730000, 0x06_00, 0x06_0c_0f_1), // ER-P_s
     Row(0x45522d5f69000000, 0x05_00, 0x05_0b_03_1), // ER-_i
@@ -266,9 +223,6 @@ pub(crate) const BUSINESS_4: [Row; 9] = [
     Row(0x4561502d315f6900, 0x07_00, 0x04_0a_0e_1), // EaP-1_i
     Row(0x4561502d315f7300, 0x07_00, 0x04_0a_0e_1), // EaP-1_s
     Row(0x4561502d315f7332, 0x08_00, 0x04_0a_0e_1), // EaP-1_s2
-];
-
-pub(crate) const BUSINESS_5: [Row; 9] = [
     Row(0x4561505f73320000, 0x06_00, 0x04_0a_0e_1), // EaP_s2
     Row(0x46696e502d310000, 0x06_00, 0x11_11_01_1), // FinP-1
     Row(0x46696e502d315f32, 0x08_00, 0x11_11_01_1), // FinP-1_2
@@ -278,9 +232,6 @@ pub(crate) const BUSINESS_5: [Row; 9] = [
     Row(0x5041314d4e000000, 0x05_00, 0x03_07_14_1), // PA1MN
     Row(0x5041315f69000000, 0x05_00, 0x03_08_0c_2), // PA1_i
     Row(0x5041315f73000000, 0x05_00, 0x03_08_0c_2), // PA1_s
-];
-
-pub(crate) const BUSINESS_6: [Row; 9] = [
     Row(0x5041325f69000000, 0x05_00, 0x03_08_0c_2), // PA2_i
     Row(0x5041325f73000000, 0x05_00, 0x03_08_0c_2), // PA2_s
     Row(0x5041335f69000000, 0x05_00, 0x03_08_0c_2), // PA3_i
@@ -290,9 +241,6 @@ pub(crate) const BUSINESS_6: [Row; 9] = [
     Row(0x5041355f69000000, 0x05_00, 0x03_08_0c_2), // PA5_i
     Row(0x5041355f73000000, 0x05_00, 0x03_08_0c_2), // PA5_s
     Row(0x5041365f69000000, 0x05_00, 0x03_08_0c_2), // PA6_i
-];
-
-pub(crate) const BUSINESS_7: [Row; 9] = [
     Row(0x5041365f73000000, 0x05_00, 0x03_08_0c_2), // PA6_s
     Row(0x504d41585f690000, 0x06_00, 0x03_08_10_2), // PMAX_i
     Row(0x504d41585f730000, 0x06_00, 0x03_08_10_2), // PMAX_s
@@ -302,9 +250,6 @@ pub(crate) const BUSINESS_7: [Row; 9] = [
     Row(0x5053000000000000, 0x02_00, 0x03_08_10_2), // PS
     Row(0x5054434f55523100, 0x07_00, 0x01_03_1c_1), // PTCOUR1
     Row(0x5054434f55523200, 0x07_00, 0x01_03_1c_1), // PTCOUR2
-];
-
-pub(crate) const BUSINESS_8: [Row; 9] = [
     Row(0x544152494644594e, 0x08_00, 0x05_07_05_2), // TARIFDYN
     Row(0x5444594e31434400, 0x07_00, 0x15_15_08_1), // TDYN1CD
     Row(0x5444594e31434600, 0x07_00, 0x15_15_08_1), // TDYN1CF
@@ -314,18 +259,9 @@ pub(crate) const BUSINESS_8: [Row; 9] = [
     Row(0x5444594e32434600, 0x07_00, 0x15_15_08_1), // TDYN2CF
     Row(0x5444594e32464400, 0x07_00, 0x15_15_08_1), // TDYN2FD
     Row(0x5444594e32464600, 0x07_00, 0x15_15_08_1), // TDYN2FF
-];
-
-pub(crate) const BUSINESS_9: [Row; 9] = [
     Row(0x54475048495f6900, 0x07_00, 0x04_08_15_5), // TGPHI_i
     Row(0x54475048495f7300, 0x07_00, 0x04_08_15_5), // TGPHI_s
     Row(0x5452414d45000000, 0x05_00, 0x04_04_00_1), // TRAME
-    Row(0xfffffffffffffff1, 0, 0), // none
-    Row(0xfffffffffffffff2, 0, 0), // none
-    Row(0xfffffffffffffff3, 0, 0), // none
-    Row(0xfffffffffffffff4, 0, 0), // none
-    Row(0xfffffffffffffff5, 0, 0), // none
-    Row(0xfffffffffffffff6, 0, 0), // none
 ];
 
 // A form: the fewest and the most characters of such data, and their picture. In a picture 9 stands for a digit, 0 for a
