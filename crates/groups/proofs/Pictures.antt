@@ -13,7 +13,7 @@ use Rattle.groups.specs.Formats.{form_of, forms}
 use Rattle.groups.specs.Fields.{width_right, kind_right}
 use Rattle.groups.specs.Place.{agreed, reach, furthest, first_wrong}
 use Rattle.groups.specs.Stored.{plain_rule, formed_rule, form_in, format_at, formats_from}
-use Rattle.groups.specs.Inside.{wrong_at}
+use Rattle.std.specs.List.{prefix_len}
 use Rattle.groups.proofs.Laws.Tests.{split}
 use Rattle.groups.proofs.Laws.Forms.{some_reached, reached_some, furthest_most, run_end, match_run, kind_takes, or_false, append_none}
 use Rattle.groups.specs.declared.table.Form.{Form as StoredForm}
@@ -97,10 +97,14 @@ later_most a b = go (ltb b a) refl
 
 -- ---- One kind and one width
 
-agreed_run : (k : Kind) (d : List ℕ) → agreed (replicate (length d) (picture_of k)) d ≡ wrong_at (of_kind k) d
-unfolding agreed wrong_at
+agreed_run : (k : Kind) (d : List ℕ) → agreed (replicate (length d) (picture_of k)) d ≡ prefix_len (of_kind k) d
+unfolding agreed pick
 agreed_run k [] = refl
-agreed_run k (c ∷ d) = rw (kind_takes k c, agreed_run k d)
+agreed_run k (c ∷ d) = rw (kind_takes k c, agreed_run k d) (chosen (of_kind k c))
+  where
+    chosen : (b : Bool) → pick b (suc (prefix_len (of_kind k) d)) 0 ≡ cond b (1 + prefix_len (of_kind k) d) 0
+    chosen true = omega arith
+    chosen false = refl
 
 module _ (p : Plain) (d : List ℕ) where
   pub plain_width : width_right (plain_rule p) (length d) ≡ eqb (length d) p.width
@@ -126,7 +130,7 @@ module _ (p : Plain) (d : List ℕ) where
       ) (or_false (every (of_kind p.kind) d))
 
   -- data of the width go wrong at the first character that is not of the kind, data of another at once
-  pub plain_wrong : length d ≡ p.width → first_wrong (plain_rule p) d ≡ wrong_at (of_kind p.kind) d
+  pub plain_wrong : length d ≡ p.width → first_wrong (plain_rule p) d ≡ prefix_len (of_kind p.kind) d
   unfolding first_wrong furthest reach has_length form_of pick
   plain_wrong e =
       rw (

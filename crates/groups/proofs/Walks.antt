@@ -1,19 +1,18 @@
 -- The definitions over lists, as a loop from the front uses them: at a place, what is left decides.
-use Rattle.std.proofs.Common.{◌≡◌, refl, sym, ap, ◌∙◌, Bool, true, false, ◌&&◌, List, [], ◌∷◌, ◌++◌, ℕ, zero, suc, ◌+◌, ◌-◌, ◌%◌, ◌<◌, ◌≤◌, min, add-one, arith, T, eqb, leb, leb→le, length, get_or, take, drop, drop_of_length-le, length-drop, length-take, drop-cons, get_or-drop, take-add, take_all, eq-eqb, ne_eqb, eqb-true}
+use Rattle.std.proofs.Common.{◌≡◌, refl, sym, ap, ◌∙◌, Bool, true, false, ◌&&◌, cond, List, [], ◌∷◌, ◌++◌, ℕ, suc, ◌+◌, ◌-◌, ◌%◌, ◌<◌, ◌≤◌, min, add-one, arith, T, eqb, leb, leb→le, length, get_or, take, drop, drop_of_length-le, length-drop, length-take, drop-cons, get_or-drop, take-add, take_all, eq-eqb, ne_eqb, eqb-true}
 use Rattle.std.proofs.lemmas.Bool.{eqb-false}
-use Rattle.std.proofs.Math.Numerals.{unary_clauses}
 use Rattle.std.proofs.Math.Facts.{and_yes}
-use Rattle.characters.specs.Answers.{every, every_at, from_true, is_true, pick, by_pick}
+use Rattle.characters.specs.Answers.{every, every_at, from_true, is_true, pick}
 use Rattle.characters.specs.Passing.{Pass}
 use Rattle.groups.specs.Kinds.{of_kind}
 use Rattle.groups.specs.Modes.{separator, counted_at_end}
 use Rattle.groups.specs.Groups.{total, check}
 use Rattle.groups.specs.Conditions.{first_at}
-use Rattle.groups.specs.Inside.{wrong_at, check_from, RightUpTo, ContentWalk, FrontSum, StartsWith}
+use Rattle.groups.specs.Inside.{check_from, ContentWalk, FrontSum, StartsWith}
 use Rattle.groups.proofs.Laws.Tests.{split}
 use Rattle.groups.proofs.Laws.Conditions.{front_behind}
 use Rattle.groups.specs.declared.Mode.{Mode}
-use Rattle.std.specs.List.{fold}
+use Rattle.std.specs.List.{fold, prefix_len}
 use Rattle.groups.specs.declared.table.Kind.TheVariants.{Digits}
 
 -- a content begins with what is taken from its front
@@ -44,36 +43,6 @@ module _ (s : ℕ) (c : List ℕ) (i : ℕ) where
   unfolding first_at
   first_over h = rw (drop_of_length-le c h)
 
--- the first that fails a test stands inside, or behind the last
-pub wrong_within : (f : ℕ → Bool) (c : List ℕ) → wrong_at f c ≤ length c
-unfolding wrong_at
-wrong_within f [] = omega arith
-wrong_within f (x ∷ c) =
-    let h = wrong_within f c in
-    by_pick (λ (n : ℕ). n ≤ suc (length c)) (f x) _ _ (λ t. omega arith) (λ t. omega arith)
-
-module _ (f : ℕ → Bool) (c : List ℕ) (i : ℕ) where
-  pub wrong_here : i < length c → f (get_or c i 0) ≡ false → wrong_at f (drop i c) ≡ 0
-  unfolding wrong_at pick
-  wrong_here h e = rw (drop-cons c i 0 h, e)
-
-  pub wrong_on : i < length c → f (get_or c i 0) ≡ true → wrong_at f (drop i c) ≡ suc (wrong_at f (drop (i + 1) c))
-  unfolding wrong_at pick
-  wrong_on h e = rw (add-one i, drop-cons c i 0 h, e)
-
-  pub wrong_over : length c ≤ i → wrong_at f (drop i c) ≡ 0
-  unfolding wrong_at
-  wrong_over h = rw (drop_of_length-le c h)
-
--- as many as pass from a place on are counted with those before it
-pub right_further : (f : ℕ → Bool) (c : List ℕ) (i n : ℕ) → RightUpTo f c i → i + n ≤ length c → Pass f c i (i + n)
-    → RightUpTo f c (i + n)
-right_further f c i zero r h right = simp unary_clauses r
-right_further f c i (suc n) r h right =
-    let before = right_further f c i n r (omega arith) (λ k a b. right k a (omega arith)) in
-    let on = wrong_on f c (i + n) (omega arith) (right (i + n) (omega arith) (omega arith)) in
-    (h, simp unary_clauses (omega (arith, before.1, simp unary_clauses at on)))
-
 eqb_suc : (a b : ℕ) → eqb (suc a) (suc b) ≡ eqb a b
 eqb_suc a b = go (eqb a b) refl
   where
@@ -82,23 +51,24 @@ eqb_suc a b = go (eqb a b) refl
     go false e = ne_eqb (suc a) (suc b) (λ z. eqb-false a b e (omega arith))
 
 -- all pass exactly when the first that fails is past the end
-wrong_nowhere : (f : ℕ → Bool) (c : List ℕ) → eqb (wrong_at f c) (length c) ≡ every f c
-unfolding wrong_at pick
+wrong_nowhere : (f : ℕ → Bool) (c : List ℕ) → eqb (prefix_len f c) (length c) ≡ every f c
 wrong_nowhere f [] = refl
 wrong_nowhere f (x ∷ c) = go (f x) (wrong_nowhere f c)
   where
-    go : (b : Bool) → eqb (wrong_at f c) (length c) ≡ every f c
-        → eqb (pick b (suc (wrong_at f c)) 0) (suc (length c)) ≡ (b && every f c)
-    go true e = eqb_suc (wrong_at f c) (length c) ∙ e
+    go : (b : Bool) → eqb (prefix_len f c) (length c) ≡ every f c
+        → eqb (cond b (1 + prefix_len f c) 0) (suc (length c)) ≡ (b && every f c)
+    go true e =
+        let one : 1 + prefix_len f c ≡ suc (prefix_len f c) = omega arith in
+        rw one (eqb_suc (prefix_len f c) (length c) ∙ e)
     go false e = ne_eqb 0 (suc (length c)) (λ z. omega arith)
 
-pub wrong_none : (f : ℕ → Bool) (c : List ℕ) (n : ℕ) → length c ≡ n → eqb (wrong_at f c) n ≡ every f c
+pub wrong_none : (f : ℕ → Bool) (c : List ℕ) (n : ℕ) → length c ≡ n → eqb (prefix_len f c) n ≡ every f c
 wrong_none f c n e = rw (← e) (wrong_nowhere f c)
 
-pub all_right : (f : ℕ → Bool) (c : List ℕ) → wrong_at f c ≡ length c → every f c ≡ true
+pub all_right : (f : ℕ → Bool) (c : List ℕ) → prefix_len f c ≡ length c → every f c ≡ true
 all_right f c e = sym (wrong_nowhere f c) ∙ eq-eqb _ _ e
 
-pub some_wrong : (f : ℕ → Bool) (c : List ℕ) → (wrong_at f c ≡ length c → ⊥) → every f c ≡ false
+pub some_wrong : (f : ℕ → Bool) (c : List ℕ) → (prefix_len f c ≡ length c → ⊥) → every f c ≡ false
 some_wrong f c e = sym (wrong_nowhere f c) ∙ ne_eqb _ _ e
 
 -- where all from a place on pass, each does

@@ -1,12 +1,12 @@
 // What a rule asks of stamp and data; reader and writer both ask it.
-ghost use Rattle.std.specs.Prelude.{◌≡◌, true, ◌+◌, ◌≤◌, length};
-ghost use Rattle.characters.specs.Passing.{Pass};
+ghost use Rattle.std.specs.Prelude.{◌≡◌, ◌≤◌, length};
+ghost use Rattle.std.specs.List.{prefix_len};
 ghost use Rattle.groups.specs.Kinds.{of_kind};
 ghost use Rattle.groups.specs.Forms.{takes};
 ghost use Rattle.groups.specs.Formats.{forms as forms_of};
 ghost use Rattle.groups.specs.Stored.{plain_rule, formed_rule, rule_of, form_in, formats_from};
 ghost use Rattle.groups.specs.Place.{agreed as agreed_of, reach as reach_of, furthest as furthest_of, first_wrong};
-ghost use Rattle.groups.specs.Inside.{RightUpTo, wrong_at, fields_in, fitness};
+ghost use Rattle.groups.specs.Inside.{fields_in, fitness};
 
 use crate::group::Group;
 use crate::table::{Form, Forms, Kind, Plain, Rule};
@@ -22,46 +22,11 @@ pub(crate) fn of_kind(kind: Kind, code: u8) -> bool
     }
 }
 
-// Whether the eight characters from a place on are of the kind. No test leaves the loop, so that the compiler tests all
-// eight at once.
-fn eight_of_kind(kind: Kind, text: &[u8], from: usize) -> bool
-    requires { from + 8 ≤ length text.now }
-    ensures { result ≡ true → Pass (of_kind kind) text.now from (from + 8) }
-{
-    let mut right = true;
-    for i in from..from + 8 {
-        right = right & of_kind(kind, text[i]);
-    }
-    right
-}
-
-// How many characters at the front are of the kind, by eights: the first that is not is none of them.
-// Kept beside `wrong_at`: one search over all characters takes 5 % more instructions of judging in standard mode. A `while`,
-// since a step of eight has no plainer form: `step_by` goes on into the last few.
-fn eights_of_kind(kind: Kind, text: &[u8]) -> usize
-    ensures { RightUpTo (of_kind kind) text.now result }
-{
-    let mut i = 0;
-    while 8 <= text.len() - i {
-        if eight_of_kind(kind, text, i) {
-            i += 8;
-        } else {
-            return i;
-        }
-    }
-    i
-}
-
 // The place of the first character that is not of the kind; the length where all are.
 pub(crate) fn wrong_at(kind: Kind, text: &[u8]) -> usize
-    ensures { result ≡ wrong_at (of_kind kind) text.now }
+    ensures { result ≡ prefix_len (of_kind kind) text.now }
 {
-    for i in eights_of_kind(kind, text)..text.len() {
-        if !of_kind(kind, text[i]) {
-            return i;
-        }
-    }
-    text.len()
+    text.iter().take_while(|&&code| of_kind(kind, code)).count()
 }
 
 // Whether a character of a picture takes a character of data.

@@ -2,14 +2,14 @@
 use Rattle.std.proofs.Common.{◌-◌, ℕ, eq-eqb, le-leb, ne_eqb, eqb, drop, length, length-drop, take, true, List, ◌∙◌, ◌≡◌, sym, arith}
 use Rattle.characters.specs.Answers.{every}
 use Rattle.groups.proofs.Walks.{to_end, two_digits_at, wrong_none}
-use Rattle.groups.specs.Inside.{wrong_at}
+use Rattle.std.specs.List.{prefix_len}
 use Rattle.groups.specs.Kinds.{of_kind}
 use Rattle.groups.specs.Stamps.{two_digits, date_right}
 use Rattle.groups.specs.declared.table.Kind.TheVariants.{Digits}
 use Rattle.groups.proofs.stamps.date_right.Goals as goal
 
 -- what the code finds wrong behind the season tells whether all there are digits
-module _ (s : List ℕ) (n : length s ≡ 13) {wrong : ℕ} (e : wrong ≡ wrong_at (of_kind Digits) (take (length s - 1) (drop 1 s))) where
+module _ (s : List ℕ) (n : length s ≡ 13) {wrong : ℕ} (e : wrong ≡ prefix_len (of_kind Digits) (take (length s - 1) (drop 1 s))) where
   tested : every (of_kind Digits) (drop 1 s) ≡ eqb wrong 12
   tested = rw (e, to_end 1 s) (sym (wrong_none (of_kind Digits) (drop 1 s) 12 (simp length-drop (omega arith))))
 
