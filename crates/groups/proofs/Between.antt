@@ -1,8 +1,9 @@
 -- Data between two texts: where a picture takes, in each place, all that lies between the characters of the texts, it takes
 -- data that lie between the texts.
-use Rattle.std.proofs.Common.{◌≡◌, refl, ap, subst, Bool, true, false, ◌&&◌, List, [], ◌∷◌, ℕ, zero, suc, ◌+◌, ◌-◌, ◌<◌, ◌≤◌, arith, T, eqb, leb, eqb→eq, leb→le, le→leb, length, drop, length-drop}
+use Rattle.std.proofs.Common.{◌≡◌, refl, ap, subst, Bool, true, false, ◌&&◌, List, [], ◌∷◌, ℕ, zero, suc, ◌+◌, ◌-◌, ◌<◌, ◌≤◌, arith, T, eqb, leb, eqb→eq, leb→le, le→leb, length, drop, length-drop, fold, get_or, sym, ◌∙◌, get_or-drop, get_or-take, take}
+use Rattle.std.specs.List.{zip}
 use Rattle.std.proofs.Math.Facts.{and_yes, yes_and}
-use Rattle.characters.specs.Answers.{pick, by_pick}
+use Rattle.characters.specs.Answers.{pick, by_pick, from_true, is_true}
 use Rattle.groups.specs.Forms.{Form, takes, last_of, matches, has_length, fits, some_fits}
 use Rattle.groups.specs.Formats.{form_of, forms}
 use Rattle.groups.specs.Stored.{format_at, formats_from, Between, Bounded}
@@ -88,6 +89,45 @@ covered_match (x ∷ p) (y ∷ l) (z ∷ h) (c ∷ d) t e b =
     let (m, n) = b 0 (omega arith) (omega arith) in
     yes_and (takes x c) (matches p d) (covers_takes x y z c u m n)
     (covered_match p l h d v (omega arith) (λ i f k. b (suc i) (omega arith) (omega arith)))
+
+-- ---- Texts of one length, gone over at once
+
+abbrev pub step : Bool → (ℕ × ℕ) × ℕ → Bool
+step right p = right && leb p.0.0 p.1 && leb p.1 p.0.1
+
+all_yes : (low high codes : List ℕ) (right : Bool) → length high ≡ length low → length codes ≡ length low
+    → fold step right (zip (zip low high) codes) ≡ true → (right ≡ true) × Between low high codes 0 (length codes)
+all_yes [] [] [] right a b e = (e, λ i f k. absurd (omega arith))
+all_yes [] (h ∷ high) codes right a b e = absurd (omega (arith, a))
+all_yes [] [] (c ∷ codes) right a b e = absurd (omega (arith, b))
+all_yes (l ∷ low) [] codes right a b e = absurd (omega (arith, a))
+all_yes (l ∷ low) (h ∷ high) [] right a b e = absurd (omega (arith, b))
+all_yes (l ∷ low) (h ∷ high) (c ∷ codes) right a b e =
+    let (x, y) = all_yes low high codes (step right ((l, h), c)) (omega (arith, a)) (omega (arith, b)) e in
+    let (v, q) = and_yes (right && leb l c) (leb c h) (from_true x) in
+    let (u, p) = and_yes right (leb l c) v in
+    (is_true u, here (leb→le l c p) (leb→le c h q) y)
+  where
+    here : l ≤ c → c ≤ h → Between low high codes 0 (length codes)
+        → Between (l ∷ low) (h ∷ high) (c ∷ codes) 0 (length (c ∷ codes))
+    here p q y zero f k = (p, q)
+    here p q y (suc i) f k = y i (omega arith) (omega arith)
+
+-- data laid behind the front of the lowest, where all lie between the texts
+pub bounded_behind : (least : ℕ) (low high d codes : List ℕ) (start : ℕ) → length high ≡ length low → length codes ≡ length low
+    → least ≤ length d → start + length d ≡ length low → take (start + length d - start) (drop start codes) ≡ d
+    → fold step true (zip (zip low high) codes) ≡ true → Bounded least low high d
+bounded_behind least low high d codes start a b enough room behind e =
+    record { enough = enough; room = omega (arith, room); between = λ i f k. at i k }
+  where
+    at : (i : ℕ) → i < length d
+        → (get_or (last_of (length d) low) i 0 ≤ get_or d i 0) × (get_or d i 0 ≤ get_or (last_of (length d) high) i 0)
+    at i k =
+        let front : length low - length d ≡ start = omega (arith, room) in
+        let one = (all_yes low high codes true a b e).1 (start + i) (omega arith) (omega (arith, b, room)) in
+        let same : get_or codes (start + i) 0 ≡ get_or d i 0 =
+        sym (get_or-drop start codes i 0) ∙ sym (get_or-take (start + length d - start) (drop start codes) i 0 (omega arith)) ∙ ap (λ (x : List ℕ). get_or x i 0) behind in
+        rw (a, front, get_or-drop start low i 0, get_or-drop start high i 0, ← same) one
 
 -- ---- Forms
 

@@ -1,81 +1,44 @@
 // A quick way to say yes to the data of mode 2. A form is held as two texts, of the lowest and the highest character that it
 // takes in each place, so that many characters are tested at once. Where it says no, `fitting.rt` decides by the pictures.
-ghost use Rattle.std.specs.Prelude.{◌≡◌, true, ◌+◌, ◌-◌, ◌≤◌, T as So, length};
+ghost use Rattle.std.specs.Prelude.{◌≡◌, true, ◌&&◌, nat_le, fold, T as So, length};
+ghost use Rattle.std.specs.List.{zip};
 ghost use Rattle.groups.specs.Forms.{fits, some_fits};
 ghost use Rattle.groups.specs.Formats.{form_of, forms as forms_of};
 ghost use Rattle.groups.specs.Table.{codes};
-ghost use Rattle.groups.specs.Stored.{format_at, formats_from, Between, Bounded};
+ghost use Rattle.groups.specs.Stored.{format_at, formats_from, Bounded};
 
 use crate::table::Forms;
 
-// Whether so many characters from a place on lie between those of two texts. No test leaves the loop, so that the compiler
-// tests all of them at once where it knows how many they are.
-fn part_between(low: &[u8], high: &[u8], data: &[u8], from: usize, count: usize) -> bool
-    requires { (length low.now ≡ length «data».now) × (length high.now ≡ length «data».now) × (from + count ≤ length «data».now) }
-    ensures { result ≡ true → Between low.now high.now «data».now from (from + count) }
+// Whether each character lies between those of two texts in its place. No test leaves the chain, so that the compiler tests
+// many at once.
+fn all_between<const N: usize>(low: &[u8; N], high: &[u8; N], codes: &[u8; N]) -> bool
+    ensures { result ≡ fold (λ right p. right && nat_le p.0.0 p.1 && nat_le p.1 p.0.1) true (zip (zip low.now high.now) codes.now) }
 {
-    let mut right = true;
-    for i in from..from + count {
-        right = right & (low[i] <= data[i]) & (data[i] <= high[i]);
-    }
-    right
+    low.iter()
+        .zip(high)
+        .zip(codes)
+        .fold(true, |right, ((low, high), code)| {
+            right & (low <= code) & (code <= high)
+        })
 }
 
-// Whether all but the last eight lie between the texts, by eights: the last of these may reach into the last eight. Kept as a
-// `while`, which steps by eight.
-fn eights_between(low: &[u8], high: &[u8], data: &[u8]) -> bool
-    requires { (length low.now ≡ length «data».now) × (length high.now ≡ length «data».now) }
-    ensures { result ≡ true → Between low.now high.now «data».now 0 (length «data».now - 8) }
-{
-    let n = data.len();
-    let mut i = 0;
-    while 8 < n - i {
-        if part_between(low, high, data, i, 8) {
-            i += 8;
-        } else {
-            return false;
-        }
-    }
-    true
-}
-
-// Whether all lie between the texts, by eights or fours; the last of these may go over some characters again.
-fn all_between(low: &[u8], high: &[u8], data: &[u8]) -> bool
-    requires { (length low.now ≡ length «data».now) × (length high.now ≡ length «data».now) }
-    ensures { result ≡ true → Between low.now high.now «data».now 0 (length «data».now) }
-{
-    let n = data.len();
-    if n < 4 {
-        return part_between(low, high, data, 0, n);
-    }
-    if n < 8 {
-        return part_between(low, high, data, 0, 4) & part_between(low, high, data, n - 4, 4);
-    }
-    if eights_between(low, high, data) {
-        return part_between(low, high, data, n - 8, 8);
-    }
-    false
-}
-
-// Whether data have at least so many characters, and lie between the ends of two texts.
-fn lies_between(least: usize, low: &[u8], high: &[u8], data: &[u8]) -> bool
-    requires { length low.now ≡ length high.now }
+// Whether data have at least so many characters, and lie between the ends of two texts: behind the front of the lowest, all do.
+fn lies_between<const N: usize>(least: usize, low: &[u8; N], high: &[u8; N], data: &[u8]) -> bool
     ensures { result ≡ true → Bounded least low.now high.now «data».now }
 {
     let n = data.len();
-    let most = low.len();
-    if n < least {
+    if n < least || N < n {
         return false;
     }
-    if most < n {
-        return false;
-    }
-    let start = most - n;
-    all_between(&low[start..], &high[start..], data)
+    let mut codes = *low;
+    let room = &mut codes[..];
+    room[N - n..].copy_from_slice(data);
+    all_between(low, high, &codes)
 }
 
 // Whether the form of a number takes data: only a yes is sure. A tangent is written with a comma or with a point; what lies
 // between these two is a minus.
+#[inline(never)]
 fn surely_takes(number: usize, data: &[u8]) -> bool
     ensures { result ≡ true → So (fits (form_of (format_at number)) «data».now) }
 {
