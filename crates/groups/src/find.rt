@@ -2,13 +2,13 @@
 //
 // A label is compared by its first eight bytes as one number, the first on top, so that the order of these keys is that of the
 // bytes; no two labels of a mode have the same. Of the row with that key, the length and the ninth byte are compared too.
-ghost use Rattle.std.specs.Prelude.{◌≡◌, [], ◌∷◌, ◌+◌, ◌*◌, ◌/◌, ◌^◌, ◌-◌, ◌≤◌, ◌<◌, T as So, length, take};
+ghost use Rattle.std.specs.Prelude.{◌≡◌, [], ◌∷◌, ◌+◌, ◌*◌, ◌/◌, ◌^◌, ◌-◌, ◌≤◌, T as So, length, take};
 ghost use Rattle.groups.specs.Table.{lookup, rows};
-ghost use Rattle.groups.specs.Stored.{plain_rule, formed_rule, rule_of, rule_found};
-ghost use Rattle.groups.specs.Packed.{packed, key_of, tail_of, kind_in, mark_in, plain_in, formed_in, rule_in};
-ghost use Rattle.groups.specs.Packed.{is_named, rising, Finds, Decides};
+ghost use Rattle.std.specs.Option.{option_copied};
+ghost use Rattle.groups.specs.Stored.{rule_found};
+ghost use Rattle.groups.specs.Packed.{packed, key_of, ninth_of, is_named, rising, Finds, Decides};
 
-use crate::table::{Forms, Kind, Mark, Plain, Row, Rule};
+use crate::table::{Row, Rule};
 use crate::{Mode, table};
 
 // The key of the first n bytes of a text, byte by byte from the last one on.
@@ -68,98 +68,42 @@ fn key_of(text: &[u8], n: usize) -> u64
     cut(first_eight(text), n)
 }
 
-// The length and the ninth byte of the first n bytes of a text.
-fn tail_of(text: &[u8], n: usize) -> u64
-    requires { (n ≤ length text.now) × (n ≤ 9) }
-    ensures { result ≡ tail_of (take n text.now) }
+// The ninth of the first n bytes of a text, or 0 where there is none.
+fn ninth_of(text: &[u8], n: usize) -> u8
+    requires { n ≤ length text.now }
+    ensures { result ≡ ninth_of (take n text.now) }
 {
-    if n < 9 {
-        return n as u64 * 256;
-    }
-    n as u64 * 256 + text[8] as u64
-}
-
-// Kept as numbers in the rows: with fields of their own for kind and mark the line takes 1 to 5 % more instructions (48).
-fn kind_in(number: u64) -> Kind
-    ensures { result ≡ kind_in number }
-{
-    match number {
-        0 => Kind::Digits,
-        1 => Kind::Hex,
-        _ => Kind::Text,
-    }
-}
-
-fn mark_in(number: u64) -> Mark
-    ensures { result ≡ mark_in number }
-{
-    match number {
-        0 => Mark::Unstamped,
-        1 => Mark::Letter,
-        _ => Mark::Space,
-    }
+    if n < 9 { 0 } else { text[8] }
 }
 
 // Whether the row that has a label's key is the label's: whether length and ninth byte are the same too.
-fn is_named(row: Row, tail: u64) -> bool
-    ensures { result ≡ is_named tail row }
+fn is_named(row: &Row, n: usize, ninth: u8) -> bool
+    ensures { result ≡ is_named n ninth row.now }
 {
-    tail == row.1
-}
-
-// The rule that a row of modes 0 and 1 has.
-fn plain(number: u64) -> Plain
-    ensures { plain_rule result ≡ plain_in number }
-{
-    Plain {
-        width: (number / 256) as usize,
-        kind: kind_in(number / 16 % 16),
-        mark: mark_in(number % 16),
-    }
-}
-
-// The rule that a row of mode 2 has.
-fn forms(number: u64) -> Forms
-    ensures { formed_rule result ≡ formed_in number }
-{
-    Forms {
-        smallest: (number / 0x10_0000) as usize,
-        largest: (number / 0x1000 % 256) as usize,
-        first: (number / 16 % 256) as u8,
-        count: (number % 16) as u8,
-    }
+    (n == usize::from(row.length)) & (ninth == row.ninth)
 }
 
 // The row that has this key, of rows in the order of their keys. It is generic in their number, since the compiler then knows
-// how often they are halved: over a slice of any length the line takes 5 to 8 % more instructions (docs/DECISIONS.md, 48).
-fn row_with<const N: usize>(rows: &[Row; N], key: u64) -> Option<Row>
+// how often they are halved: over a slice of any length the line takes 5 to 8 % more instructions, and with a copy of the row
+// in place of a loan 1 to 3 % more (docs/DECISIONS.md, 48).
+fn row_with<const N: usize>(rows: &[Row; N], key: u64) -> Option<&Row>
     requires { So (rising rows.now) }
-    ensures { Finds rows.now key result }
+    ensures { Finds rows.now key (option_copied result) }
 {
-    match rows.binary_search_by_key(&key, |row| row.0) {
-        Ok(at) => Some(rows[at]),
+    match rows.binary_search_by_key(&key, |row| row.key) {
+        Ok(at) => Some(&rows[at]),
         Err(_) => None,
     }
 }
 
 // The row that has this key in the list of a mode.
-fn row_of(mode: Mode, key: u64) -> Option<Row>
-    ensures { Decides mode key result }
+fn row_of(mode: Mode, key: u64) -> Option<&'static Row>
+    ensures { Decides mode key (option_copied result) }
 {
     match mode {
         Mode::Historic => row_with(&table::HISTORIC, key),
         Mode::Standard => row_with(&table::STANDARD, key),
         Mode::Business => row_with(&table::BUSINESS, key),
-    }
-}
-
-// The rule that a row of a mode has as a number.
-fn rule_in(mode: Mode, number: u64) -> Rule
-    ensures { rule_of result ≡ rule_in mode number }
-{
-    match mode {
-        Mode::Historic | Mode::Standard => Rule::Plain(plain(number)),
-        Mode::Business => Rule::Formed(forms(number)),
     }
 }
 
@@ -175,8 +119,8 @@ pub(crate) fn find(mode: Mode, text: &[u8], n: usize) -> Option<Rule>
         return None;
     }
     let row = row_of(mode, key_of(text, n))?;
-    if is_named(row, tail_of(text, n)) {
-        Some(rule_in(mode, row.2))
+    if is_named(row, n, ninth_of(text, n)) {
+        Some(row.rule)
     } else {
         None
     }

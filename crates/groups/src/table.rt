@@ -1,10 +1,9 @@
 // The table: the labels of each mode, in the order of their bytes, and the forms of mode 2's data.
 //
-// A row is three numbers, in hexadecimal digits, and behind it stands its label. The first number is the label's first eight
-// bytes, the first on top, 00 where there is none. The second has two digits for the length and two for the ninth byte. The
-// third says what the label asks of stamp and data: in modes 0 and 1 two digits for the width, one for the kind and one for the
-// mark, as the enums below have them, from 0 on; in mode 2, which has no stamps, two digits each for the smallest and the
-// largest length and for the number of the first form, and one for how many forms there are from that one on.
+// A row has the label's first eight bytes as one number, the first on top, 00 where there is none; the label's length; its ninth
+// byte, or 0 where it has none; and what the label asks of stamp and data. In modes 0 and 1 this is the width, the kind and the
+// mark; in mode 2, which has no stamps, the smallest and the largest length, the number of the first form and how many forms
+// there are from that one on. `plain!` and `formed!` keep a row on one line, and behind it stands its label.
 //
 // The rows of a mode stand in the order of their keys, since they are halved to find one (`find.rt`).
 
@@ -71,197 +70,234 @@ pub struct Forms {
     pub count: u8,
 }
 
-// Kept without names for its numbers, so that a row stays one line of the table.
 #[derive(Clone, Copy)]
-pub(crate) struct Row(pub u64, pub u64, pub u64);
+pub(crate) struct Row {
+    pub key: u64,
+    pub length: u8,
+    pub ninth: u8,
+    pub rule: Rule,
+}
+
+// A row of modes 0 and 1.
+macro_rules! plain {
+    ($key:literal, $length:literal, $ninth:literal, $width:literal, $kind:ident, $mark:ident) => {
+        Row {
+            key: $key,
+            length: $length,
+            ninth: $ninth,
+            rule: Rule::Plain(Plain {
+                width: $width,
+                kind: Kind::$kind,
+                mark: Mark::$mark,
+            }),
+        }
+    };
+}
+
+// A row of mode 2.
+macro_rules! formed {
+    ($key:literal, $length:literal, $ninth:literal, $smallest:literal, $largest:literal, $first:literal, $count:literal) => {
+        Row {
+            key: $key,
+            length: $length,
+            ninth: $ninth,
+            rule: Rule::Formed(Forms {
+                smallest: $smallest,
+                largest: $largest,
+                first: $first,
+                count: $count,
+            }),
+        }
+    };
+}
 
 pub(crate) static HISTORIC: [Row; 34] = [
-    Row(0x4144434f00000000, 0x04_00, 0x0c_2_0), // ADCO
-    Row(0x4144495231000000, 0x05_00, 0x03_0_0), // ADIR1
-    Row(0x4144495232000000, 0x05_00, 0x03_0_0), // ADIR2
-    Row(0x4144495233000000, 0x05_00, 0x03_0_0), // ADIR3
-    Row(0x4144505300000000, 0x04_00, 0x03_0_0), // ADPS
-    Row(0x4241534500000000, 0x04_00, 0x09_0_0), // BASE
-    Row(0x42425248434a4200, 0x07_00, 0x09_0_0), // BBRHCJB
-    Row(0x42425248434a5200, 0x07_00, 0x09_0_0), // BBRHCJR
-    Row(0x42425248434a5700, 0x07_00, 0x09_0_0), // BBRHCJW
-    Row(0x42425248504a4200, 0x07_00, 0x09_0_0), // BBRHPJB
-    Row(0x42425248504a5200, 0x07_00, 0x09_0_0), // BBRHPJR
-    Row(0x42425248504a5700, 0x07_00, 0x09_0_0), // BBRHPJW
-    Row(0x44454d41494e0000, 0x06_00, 0x04_2_0), // DEMAIN
-    Row(0x454a50484e000000, 0x05_00, 0x09_0_0), // EJPHN
-    Row(0x454a5048504d0000, 0x06_00, 0x09_0_0), // EJPHPM
-    Row(0x4843484300000000, 0x04_00, 0x09_0_0), // HCHC
-    Row(0x4843485000000000, 0x04_00, 0x09_0_0), // HCHP
-    Row(0x4848504843000000, 0x05_00, 0x01_2_0), // HHPHC
-    Row(0x49494e5354000000, 0x05_00, 0x03_0_0), // IINST
-    Row(0x49494e5354310000, 0x06_00, 0x03_0_0), // IINST1
-    Row(0x49494e5354320000, 0x06_00, 0x03_0_0), // IINST2
-    Row(0x49494e5354330000, 0x06_00, 0x03_0_0), // IINST3
-    Row(0x494d415800000000, 0x04_00, 0x03_0_0), // IMAX
-    Row(0x494d415831000000, 0x05_00, 0x03_0_0), // IMAX1
-    Row(0x494d415832000000, 0x05_00, 0x03_0_0), // IMAX2
-    Row(0x494d415833000000, 0x05_00, 0x03_0_0), // IMAX3
-    Row(0x49534f5553430000, 0x06_00, 0x02_0_0), // ISOUSC
-    Row(0x4d4f544445544154, 0x08_00, 0x06_2_0), // MOTDETAT
-    Row(0x4f50544152494600, 0x07_00, 0x04_2_0), // OPTARIF
-    Row(0x5041505000000000, 0x04_00, 0x05_0_0), // PAPP
-    Row(0x50454a5000000000, 0x04_00, 0x02_0_0), // PEJP
-    Row(0x504d415800000000, 0x04_00, 0x05_0_0), // PMAX
-    Row(0x50504f5400000000, 0x04_00, 0x02_2_0), // PPOT
-    Row(0x5054454300000000, 0x04_00, 0x04_2_0), // PTEC
+    plain!(0x4144434f00000000, 4, 0, 12, Text, Unstamped), // ADCO
+    plain!(0x4144495231000000, 5, 0, 3, Digits, Unstamped), // ADIR1
+    plain!(0x4144495232000000, 5, 0, 3, Digits, Unstamped), // ADIR2
+    plain!(0x4144495233000000, 5, 0, 3, Digits, Unstamped), // ADIR3
+    plain!(0x4144505300000000, 4, 0, 3, Digits, Unstamped), // ADPS
+    plain!(0x4241534500000000, 4, 0, 9, Digits, Unstamped), // BASE
+    plain!(0x42425248434a4200, 7, 0, 9, Digits, Unstamped), // BBRHCJB
+    plain!(0x42425248434a5200, 7, 0, 9, Digits, Unstamped), // BBRHCJR
+    plain!(0x42425248434a5700, 7, 0, 9, Digits, Unstamped), // BBRHCJW
+    plain!(0x42425248504a4200, 7, 0, 9, Digits, Unstamped), // BBRHPJB
+    plain!(0x42425248504a5200, 7, 0, 9, Digits, Unstamped), // BBRHPJR
+    plain!(0x42425248504a5700, 7, 0, 9, Digits, Unstamped), // BBRHPJW
+    plain!(0x44454d41494e0000, 6, 0, 4, Text, Unstamped), // DEMAIN
+    plain!(0x454a50484e000000, 5, 0, 9, Digits, Unstamped), // EJPHN
+    plain!(0x454a5048504d0000, 6, 0, 9, Digits, Unstamped), // EJPHPM
+    plain!(0x4843484300000000, 4, 0, 9, Digits, Unstamped), // HCHC
+    plain!(0x4843485000000000, 4, 0, 9, Digits, Unstamped), // HCHP
+    plain!(0x4848504843000000, 5, 0, 1, Text, Unstamped), // HHPHC
+    plain!(0x49494e5354000000, 5, 0, 3, Digits, Unstamped), // IINST
+    plain!(0x49494e5354310000, 6, 0, 3, Digits, Unstamped), // IINST1
+    plain!(0x49494e5354320000, 6, 0, 3, Digits, Unstamped), // IINST2
+    plain!(0x49494e5354330000, 6, 0, 3, Digits, Unstamped), // IINST3
+    plain!(0x494d415800000000, 4, 0, 3, Digits, Unstamped), // IMAX
+    plain!(0x494d415831000000, 5, 0, 3, Digits, Unstamped), // IMAX1
+    plain!(0x494d415832000000, 5, 0, 3, Digits, Unstamped), // IMAX2
+    plain!(0x494d415833000000, 5, 0, 3, Digits, Unstamped), // IMAX3
+    plain!(0x49534f5553430000, 6, 0, 2, Digits, Unstamped), // ISOUSC
+    plain!(0x4d4f544445544154, 8, 0, 6, Text, Unstamped), // MOTDETAT
+    plain!(0x4f50544152494600, 7, 0, 4, Text, Unstamped), // OPTARIF
+    plain!(0x5041505000000000, 4, 0, 5, Digits, Unstamped), // PAPP
+    plain!(0x50454a5000000000, 4, 0, 2, Digits, Unstamped), // PEJP
+    plain!(0x504d415800000000, 4, 0, 5, Digits, Unstamped), // PMAX
+    plain!(0x50504f5400000000, 4, 0, 2, Text, Unstamped), // PPOT
+    plain!(0x5054454300000000, 4, 0, 4, Text, Unstamped), // PTEC
 ];
 
 pub(crate) static STANDARD: [Row; 71] = [
-    Row(0x4144534300000000, 0x04_00, 0x0c_2_0), // ADSC
-    Row(0x434341494e000000, 0x05_00, 0x05_0_1), // CCAIN
-    Row(0x434341494e2d3100, 0x07_00, 0x05_0_1), // CCAIN-1
-    Row(0x434341534e000000, 0x05_00, 0x05_0_1), // CCASN
-    Row(0x434341534e2d3100, 0x07_00, 0x05_0_1), // CCASN-1
-    Row(0x4441544500000000, 0x04_00, 0x00_2_1), // DATE
-    Row(0x44504d3100000000, 0x04_00, 0x02_0_2), // DPM1
-    Row(0x44504d3200000000, 0x04_00, 0x02_0_2), // DPM2
-    Row(0x44504d3300000000, 0x04_00, 0x02_0_2), // DPM3
-    Row(0x4541495400000000, 0x04_00, 0x09_0_0), // EAIT
-    Row(0x4541534430310000, 0x06_00, 0x09_0_0), // EASD01
-    Row(0x4541534430320000, 0x06_00, 0x09_0_0), // EASD02
-    Row(0x4541534430330000, 0x06_00, 0x09_0_0), // EASD03
-    Row(0x4541534430340000, 0x06_00, 0x09_0_0), // EASD04
-    Row(0x4541534630310000, 0x06_00, 0x09_0_0), // EASF01
-    Row(0x4541534630320000, 0x06_00, 0x09_0_0), // EASF02
-    Row(0x4541534630330000, 0x06_00, 0x09_0_0), // EASF03
-    Row(0x4541534630340000, 0x06_00, 0x09_0_0), // EASF04
-    Row(0x4541534630350000, 0x06_00, 0x09_0_0), // EASF05
-    Row(0x4541534630360000, 0x06_00, 0x09_0_0), // EASF06
-    Row(0x4541534630370000, 0x06_00, 0x09_0_0), // EASF07
-    Row(0x4541534630380000, 0x06_00, 0x09_0_0), // EASF08
-    Row(0x4541534630390000, 0x06_00, 0x09_0_0), // EASF09
-    Row(0x4541534631300000, 0x06_00, 0x09_0_0), // EASF10
-    Row(0x4541535400000000, 0x04_00, 0x09_0_0), // EAST
-    Row(0x4552513100000000, 0x04_00, 0x09_0_0), // ERQ1
-    Row(0x4552513200000000, 0x04_00, 0x09_0_0), // ERQ2
-    Row(0x4552513300000000, 0x04_00, 0x09_0_0), // ERQ3
-    Row(0x4552513400000000, 0x04_00, 0x09_0_0), // ERQ4
-    Row(0x46504d3100000000, 0x04_00, 0x02_0_2), // FPM1
-    Row(0x46504d3200000000, 0x04_00, 0x02_0_2), // FPM2
-    Row(0x46504d3300000000, 0x04_00, 0x02_0_2), // FPM3
-    Row(0x49524d5331000000, 0x05_00, 0x03_0_0), // IRMS1
-    Row(0x49524d5332000000, 0x05_00, 0x03_0_0), // IRMS2
-    Row(0x49524d5333000000, 0x05_00, 0x03_0_0), // IRMS3
-    Row(0x4c54415246000000, 0x05_00, 0x10_2_0), // LTARF
-    Row(0x4d53473100000000, 0x04_00, 0x20_2_0), // MSG1
-    Row(0x4d53473200000000, 0x04_00, 0x10_2_0), // MSG2
-    Row(0x4e47544600000000, 0x04_00, 0x10_2_0), // NGTF
-    Row(0x4e4a4f5552460000, 0x06_00, 0x02_0_0), // NJOURF
-    Row(0x4e4a4f5552462b31, 0x08_00, 0x02_0_0), // NJOURF+1
-    Row(0x4e54415246000000, 0x05_00, 0x02_0_0), // NTARF
-    Row(0x50434f5550000000, 0x05_00, 0x02_0_0), // PCOUP
-    Row(0x504a4f5552462b31, 0x08_00, 0x62_2_0), // PJOURF+1
-    Row(0x50504f494e544500, 0x07_00, 0x62_2_0), // PPOINTE
-    Row(0x5052454600000000, 0x04_00, 0x02_0_0), // PREF
-    Row(0x50524d0000000000, 0x03_00, 0x0e_2_0), // PRM
-    Row(0x52454c4149530000, 0x06_00, 0x03_0_0), // RELAIS
-    Row(0x53494e5354490000, 0x06_00, 0x05_0_0), // SINSTI
-    Row(0x53494e5354530000, 0x06_00, 0x05_0_0), // SINSTS
-    Row(0x53494e5354533100, 0x07_00, 0x05_0_0), // SINSTS1
-    Row(0x53494e5354533200, 0x07_00, 0x05_0_0), // SINSTS2
-    Row(0x53494e5354533300, 0x07_00, 0x05_0_0), // SINSTS3
-    Row(0x534d4158494e0000, 0x06_00, 0x05_0_1), // SMAXIN
-    Row(0x534d4158494e2d31, 0x08_00, 0x05_0_1), // SMAXIN-1
-    Row(0x534d4158534e0000, 0x06_00, 0x05_0_1), // SMAXSN
-    Row(0x534d4158534e2d31, 0x08_00, 0x05_0_1), // SMAXSN-1
-    Row(0x534d4158534e3100, 0x07_00, 0x05_0_1), // SMAXSN1
-    Row(0x534d4158534e312d, 0x09_31, 0x05_0_1), // SMAXSN1-1
-    Row(0x534d4158534e3200, 0x07_00, 0x05_0_1), // SMAXSN2
-    Row(0x534d4158534e322d, 0x09_31, 0x05_0_1), // SMAXSN2-1
-    Row(0x534d4158534e3300, 0x07_00, 0x05_0_1), // SMAXSN3
-    Row(0x534d4158534e332d, 0x09_31, 0x05_0_1), // SMAXSN3-1
-    Row(0x5354474500000000, 0x04_00, 0x08_1_0), // STGE
-    Row(0x554d4f5931000000, 0x05_00, 0x03_0_1), // UMOY1
-    Row(0x554d4f5932000000, 0x05_00, 0x03_0_1), // UMOY2
-    Row(0x554d4f5933000000, 0x05_00, 0x03_0_1), // UMOY3
-    Row(0x55524d5331000000, 0x05_00, 0x03_0_0), // URMS1
-    Row(0x55524d5332000000, 0x05_00, 0x03_0_0), // URMS2
-    Row(0x55524d5333000000, 0x05_00, 0x03_0_0), // URMS3
-    Row(0x5654494300000000, 0x04_00, 0x02_2_0), // VTIC
+    plain!(0x4144534300000000, 4, 0, 12, Text, Unstamped), // ADSC
+    plain!(0x434341494e000000, 5, 0, 5, Digits, Letter), // CCAIN
+    plain!(0x434341494e2d3100, 7, 0, 5, Digits, Letter), // CCAIN-1
+    plain!(0x434341534e000000, 5, 0, 5, Digits, Letter), // CCASN
+    plain!(0x434341534e2d3100, 7, 0, 5, Digits, Letter), // CCASN-1
+    plain!(0x4441544500000000, 4, 0, 0, Text, Letter), // DATE
+    plain!(0x44504d3100000000, 4, 0, 2, Digits, Space), // DPM1
+    plain!(0x44504d3200000000, 4, 0, 2, Digits, Space), // DPM2
+    plain!(0x44504d3300000000, 4, 0, 2, Digits, Space), // DPM3
+    plain!(0x4541495400000000, 4, 0, 9, Digits, Unstamped), // EAIT
+    plain!(0x4541534430310000, 6, 0, 9, Digits, Unstamped), // EASD01
+    plain!(0x4541534430320000, 6, 0, 9, Digits, Unstamped), // EASD02
+    plain!(0x4541534430330000, 6, 0, 9, Digits, Unstamped), // EASD03
+    plain!(0x4541534430340000, 6, 0, 9, Digits, Unstamped), // EASD04
+    plain!(0x4541534630310000, 6, 0, 9, Digits, Unstamped), // EASF01
+    plain!(0x4541534630320000, 6, 0, 9, Digits, Unstamped), // EASF02
+    plain!(0x4541534630330000, 6, 0, 9, Digits, Unstamped), // EASF03
+    plain!(0x4541534630340000, 6, 0, 9, Digits, Unstamped), // EASF04
+    plain!(0x4541534630350000, 6, 0, 9, Digits, Unstamped), // EASF05
+    plain!(0x4541534630360000, 6, 0, 9, Digits, Unstamped), // EASF06
+    plain!(0x4541534630370000, 6, 0, 9, Digits, Unstamped), // EASF07
+    plain!(0x4541534630380000, 6, 0, 9, Digits, Unstamped), // EASF08
+    plain!(0x4541534630390000, 6, 0, 9, Digits, Unstamped), // EASF09
+    plain!(0x4541534631300000, 6, 0, 9, Digits, Unstamped), // EASF10
+    plain!(0x4541535400000000, 4, 0, 9, Digits, Unstamped), // EAST
+    plain!(0x4552513100000000, 4, 0, 9, Digits, Unstamped), // ERQ1
+    plain!(0x4552513200000000, 4, 0, 9, Digits, Unstamped), // ERQ2
+    plain!(0x4552513300000000, 4, 0, 9, Digits, Unstamped), // ERQ3
+    plain!(0x4552513400000000, 4, 0, 9, Digits, Unstamped), // ERQ4
+    plain!(0x46504d3100000000, 4, 0, 2, Digits, Space), // FPM1
+    plain!(0x46504d3200000000, 4, 0, 2, Digits, Space), // FPM2
+    plain!(0x46504d3300000000, 4, 0, 2, Digits, Space), // FPM3
+    plain!(0x49524d5331000000, 5, 0, 3, Digits, Unstamped), // IRMS1
+    plain!(0x49524d5332000000, 5, 0, 3, Digits, Unstamped), // IRMS2
+    plain!(0x49524d5333000000, 5, 0, 3, Digits, Unstamped), // IRMS3
+    plain!(0x4c54415246000000, 5, 0, 16, Text, Unstamped), // LTARF
+    plain!(0x4d53473100000000, 4, 0, 32, Text, Unstamped), // MSG1
+    plain!(0x4d53473200000000, 4, 0, 16, Text, Unstamped), // MSG2
+    plain!(0x4e47544600000000, 4, 0, 16, Text, Unstamped), // NGTF
+    plain!(0x4e4a4f5552460000, 6, 0, 2, Digits, Unstamped), // NJOURF
+    plain!(0x4e4a4f5552462b31, 8, 0, 2, Digits, Unstamped), // NJOURF+1
+    plain!(0x4e54415246000000, 5, 0, 2, Digits, Unstamped), // NTARF
+    plain!(0x50434f5550000000, 5, 0, 2, Digits, Unstamped), // PCOUP
+    plain!(0x504a4f5552462b31, 8, 0, 98, Text, Unstamped), // PJOURF+1
+    plain!(0x50504f494e544500, 7, 0, 98, Text, Unstamped), // PPOINTE
+    plain!(0x5052454600000000, 4, 0, 2, Digits, Unstamped), // PREF
+    plain!(0x50524d0000000000, 3, 0, 14, Text, Unstamped), // PRM
+    plain!(0x52454c4149530000, 6, 0, 3, Digits, Unstamped), // RELAIS
+    plain!(0x53494e5354490000, 6, 0, 5, Digits, Unstamped), // SINSTI
+    plain!(0x53494e5354530000, 6, 0, 5, Digits, Unstamped), // SINSTS
+    plain!(0x53494e5354533100, 7, 0, 5, Digits, Unstamped), // SINSTS1
+    plain!(0x53494e5354533200, 7, 0, 5, Digits, Unstamped), // SINSTS2
+    plain!(0x53494e5354533300, 7, 0, 5, Digits, Unstamped), // SINSTS3
+    plain!(0x534d4158494e0000, 6, 0, 5, Digits, Letter), // SMAXIN
+    plain!(0x534d4158494e2d31, 8, 0, 5, Digits, Letter), // SMAXIN-1
+    plain!(0x534d4158534e0000, 6, 0, 5, Digits, Letter), // SMAXSN
+    plain!(0x534d4158534e2d31, 8, 0, 5, Digits, Letter), // SMAXSN-1
+    plain!(0x534d4158534e3100, 7, 0, 5, Digits, Letter), // SMAXSN1
+    plain!(0x534d4158534e312d, 9, b'1', 5, Digits, Letter), // SMAXSN1-1
+    plain!(0x534d4158534e3200, 7, 0, 5, Digits, Letter), // SMAXSN2
+    plain!(0x534d4158534e322d, 9, b'1', 5, Digits, Letter), // SMAXSN2-1
+    plain!(0x534d4158534e3300, 7, 0, 5, Digits, Letter), // SMAXSN3
+    plain!(0x534d4158534e332d, 9, b'1', 5, Digits, Letter), // SMAXSN3-1
+    plain!(0x5354474500000000, 4, 0, 8, Hex, Unstamped), // STGE
+    plain!(0x554d4f5931000000, 5, 0, 3, Digits, Letter), // UMOY1
+    plain!(0x554d4f5932000000, 5, 0, 3, Digits, Letter), // UMOY2
+    plain!(0x554d4f5933000000, 5, 0, 3, Digits, Letter), // UMOY3
+    plain!(0x55524d5331000000, 5, 0, 3, Digits, Unstamped), // URMS1
+    plain!(0x55524d5332000000, 5, 0, 3, Digits, Unstamped), // URMS2
+    plain!(0x55524d5333000000, 5, 0, 3, Digits, Unstamped), // URMS3
+    plain!(0x5654494300000000, 4, 0, 2, Text, Unstamped), // VTIC
 ];
 
 pub(crate) static BUSINESS: [Row; 75] = [
-    Row(0x4144530000000000, 0x03_00, 0x0c_0c_1a_1), // ADS
-    Row(0x434f4e4649470000, 0x06_00, 0x04_05_0a_2), // CONFIG
-    Row(0x4441544500000000, 0x04_00, 0x11_11_01_1), // DATE
-    Row(0x4441544550413100, 0x07_00, 0x11_11_01_1), // DATEPA1
-    Row(0x4441544550413200, 0x07_00, 0x11_11_01_1), // DATEPA2
-    Row(0x4441544550413300, 0x07_00, 0x11_11_01_1), // DATEPA3
-    Row(0x4441544550413400, 0x07_00, 0x11_11_01_1), // DATEPA4
-    Row(0x4441544550413500, 0x07_00, 0x11_11_01_1), // DATEPA5
-    Row(0x4441544550413600, 0x07_00, 0x11_11_01_1), // DATEPA6
-    Row(0x4465625000000000, 0x04_00, 0x11_11_01_1), // DebP
-    Row(0x446562502d310000, 0x06_00, 0x11_11_01_1), // DebP-1
-    Row(0x446562502d315f32, 0x08_00, 0x11_11_01_1), // DebP-1_2
-    Row(0x446562505f320000, 0x06_00, 0x11_11_01_1), // DebP_2
-    Row(0x454150505f690000, 0x06_00, 0x04_0a_04_1), // EAPP_i
-    Row(0x454150505f730000, 0x06_00, 0x04_0a_04_1), // EAPP_s
-    Row(0x4541505f69000000, 0x05_00, 0x04_0a_0e_1), // EAP_i
-    Row(0x4541505f73000000, 0x05_00, 0x04_0a_0e_1), // EAP_s
-    Row(0x45415f6900000000, 0x04_00, 0x03_09_02_1), // EA_i
-    Row(0x45415f7300000000, 0x04_00, 0x03_09_02_1), // EA_s
-    Row(0x45522b502d315f69, 0x08_00, 0x06_0c_0f_1), // ER+P-1_i
-    Row(0x45522b502d315f73, 0x08_00, 0x06_0c_0f_1), // ER+P-1_s
-    Row(0x45522b505f690000, 0x06_00, 0x06_0c_0f_1), // ER+P_i
-    Row(0x45522b505f730000, 0x06_00, 0x06_0c_0f_1), // ER+P_s
-    Row(0x45522b5f69000000, 0x05_00, 0x05_0b_03_1), // ER+_i
-    Row(0x45522b5f73000000, 0x05_00, 0x05_0b_03_1), // ER+_s
-    Row(0x45522d502d315f69, 0x08_00, 0x06_0c_0f_1), // ER-P-1_i
-    Row(0x45522d502d315f73, 0x08_00, 0x06_0c_0f_1), // ER-P-1_s
-    Row(0x45522d505f690000, 0x06_00, 0x06_0c_0f_1), // ER-P_i
-    Row(0x45522d505f730000, 0x06_00, 0x06_0c_0f_1), // ER-P_s
-    Row(0x45522d5f69000000, 0x05_00, 0x05_0b_03_1), // ER-_i
-    Row(0x45522d5f73000000, 0x05_00, 0x05_0b_03_1), // ER-_s
-    Row(0x4554415444594e31, 0x08_00, 0x03_03_1d_1), // ETATDYN1
-    Row(0x4554415444594e32, 0x08_00, 0x03_03_1d_1), // ETATDYN2
-    Row(0x4561502d315f6900, 0x07_00, 0x04_0a_0e_1), // EaP-1_i
-    Row(0x4561502d315f7300, 0x07_00, 0x04_0a_0e_1), // EaP-1_s
-    Row(0x4561502d315f7332, 0x08_00, 0x04_0a_0e_1), // EaP-1_s2
-    Row(0x4561505f73320000, 0x06_00, 0x04_0a_0e_1), // EaP_s2
-    Row(0x46696e502d310000, 0x06_00, 0x11_11_01_1), // FinP-1
-    Row(0x46696e502d315f32, 0x08_00, 0x11_11_01_1), // FinP-1_2
-    Row(0x4d45535552455331, 0x08_00, 0x0a_0a_1b_1), // MESURES1
-    Row(0x4d45535552455332, 0x08_00, 0x0a_0a_1b_1), // MESURES2
-    Row(0x4d4f444500000000, 0x04_00, 0x08_08_09_1), // MODE
-    Row(0x5041314d4e000000, 0x05_00, 0x03_07_14_1), // PA1MN
-    Row(0x5041315f69000000, 0x05_00, 0x03_08_0c_2), // PA1_i
-    Row(0x5041315f73000000, 0x05_00, 0x03_08_0c_2), // PA1_s
-    Row(0x5041325f69000000, 0x05_00, 0x03_08_0c_2), // PA2_i
-    Row(0x5041325f73000000, 0x05_00, 0x03_08_0c_2), // PA2_s
-    Row(0x5041335f69000000, 0x05_00, 0x03_08_0c_2), // PA3_i
-    Row(0x5041335f73000000, 0x05_00, 0x03_08_0c_2), // PA3_s
-    Row(0x5041345f69000000, 0x05_00, 0x03_08_0c_2), // PA4_i
-    Row(0x5041345f73000000, 0x05_00, 0x03_08_0c_2), // PA4_s
-    Row(0x5041355f69000000, 0x05_00, 0x03_08_0c_2), // PA5_i
-    Row(0x5041355f73000000, 0x05_00, 0x03_08_0c_2), // PA5_s
-    Row(0x5041365f69000000, 0x05_00, 0x03_08_0c_2), // PA6_i
-    Row(0x5041365f73000000, 0x05_00, 0x03_08_0c_2), // PA6_s
-    Row(0x504d41585f690000, 0x06_00, 0x03_08_10_2), // PMAX_i
-    Row(0x504d41585f730000, 0x06_00, 0x03_08_10_2), // PMAX_s
-    Row(0x5052454156495300, 0x07_00, 0x03_04_12_2), // PREAVIS
-    Row(0x5052454156495331, 0x08_00, 0x06_06_07_1), // PREAVIS1
-    Row(0x5052454156495332, 0x08_00, 0x06_06_07_1), // PREAVIS2
-    Row(0x5053000000000000, 0x02_00, 0x03_08_10_2), // PS
-    Row(0x5054434f55523100, 0x07_00, 0x01_03_1c_1), // PTCOUR1
-    Row(0x5054434f55523200, 0x07_00, 0x01_03_1c_1), // PTCOUR2
-    Row(0x544152494644594e, 0x08_00, 0x05_07_05_2), // TARIFDYN
-    Row(0x5444594e31434400, 0x07_00, 0x15_15_08_1), // TDYN1CD
-    Row(0x5444594e31434600, 0x07_00, 0x15_15_08_1), // TDYN1CF
-    Row(0x5444594e31464400, 0x07_00, 0x15_15_08_1), // TDYN1FD
-    Row(0x5444594e31464600, 0x07_00, 0x15_15_08_1), // TDYN1FF
-    Row(0x5444594e32434400, 0x07_00, 0x15_15_08_1), // TDYN2CD
-    Row(0x5444594e32434600, 0x07_00, 0x15_15_08_1), // TDYN2CF
-    Row(0x5444594e32464400, 0x07_00, 0x15_15_08_1), // TDYN2FD
-    Row(0x5444594e32464600, 0x07_00, 0x15_15_08_1), // TDYN2FF
-    Row(0x54475048495f6900, 0x07_00, 0x04_08_15_5), // TGPHI_i
-    Row(0x54475048495f7300, 0x07_00, 0x04_08_15_5), // TGPHI_s
-    Row(0x5452414d45000000, 0x05_00, 0x04_04_00_1), // TRAME
+    formed!(0x4144530000000000, 3, 0, 12, 12, 26, 1), // ADS
+    formed!(0x434f4e4649470000, 6, 0, 4, 5, 10, 2), // CONFIG
+    formed!(0x4441544500000000, 4, 0, 17, 17, 1, 1), // DATE
+    formed!(0x4441544550413100, 7, 0, 17, 17, 1, 1), // DATEPA1
+    formed!(0x4441544550413200, 7, 0, 17, 17, 1, 1), // DATEPA2
+    formed!(0x4441544550413300, 7, 0, 17, 17, 1, 1), // DATEPA3
+    formed!(0x4441544550413400, 7, 0, 17, 17, 1, 1), // DATEPA4
+    formed!(0x4441544550413500, 7, 0, 17, 17, 1, 1), // DATEPA5
+    formed!(0x4441544550413600, 7, 0, 17, 17, 1, 1), // DATEPA6
+    formed!(0x4465625000000000, 4, 0, 17, 17, 1, 1), // DebP
+    formed!(0x446562502d310000, 6, 0, 17, 17, 1, 1), // DebP-1
+    formed!(0x446562502d315f32, 8, 0, 17, 17, 1, 1), // DebP-1_2
+    formed!(0x446562505f320000, 6, 0, 17, 17, 1, 1), // DebP_2
+    formed!(0x454150505f690000, 6, 0, 4, 10, 4, 1), // EAPP_i
+    formed!(0x454150505f730000, 6, 0, 4, 10, 4, 1), // EAPP_s
+    formed!(0x4541505f69000000, 5, 0, 4, 10, 14, 1), // EAP_i
+    formed!(0x4541505f73000000, 5, 0, 4, 10, 14, 1), // EAP_s
+    formed!(0x45415f6900000000, 4, 0, 3, 9, 2, 1), // EA_i
+    formed!(0x45415f7300000000, 4, 0, 3, 9, 2, 1), // EA_s
+    formed!(0x45522b502d315f69, 8, 0, 6, 12, 15, 1), // ER+P-1_i
+    formed!(0x45522b502d315f73, 8, 0, 6, 12, 15, 1), // ER+P-1_s
+    formed!(0x45522b505f690000, 6, 0, 6, 12, 15, 1), // ER+P_i
+    formed!(0x45522b505f730000, 6, 0, 6, 12, 15, 1), // ER+P_s
+    formed!(0x45522b5f69000000, 5, 0, 5, 11, 3, 1), // ER+_i
+    formed!(0x45522b5f73000000, 5, 0, 5, 11, 3, 1), // ER+_s
+    formed!(0x45522d502d315f69, 8, 0, 6, 12, 15, 1), // ER-P-1_i
+    formed!(0x45522d502d315f73, 8, 0, 6, 12, 15, 1), // ER-P-1_s
+    formed!(0x45522d505f690000, 6, 0, 6, 12, 15, 1), // ER-P_i
+    formed!(0x45522d505f730000, 6, 0, 6, 12, 15, 1), // ER-P_s
+    formed!(0x45522d5f69000000, 5, 0, 5, 11, 3, 1), // ER-_i
+    formed!(0x45522d5f73000000, 5, 0, 5, 11, 3, 1), // ER-_s
+    formed!(0x4554415444594e31, 8, 0, 3, 3, 29, 1), // ETATDYN1
+    formed!(0x4554415444594e32, 8, 0, 3, 3, 29, 1), // ETATDYN2
+    formed!(0x4561502d315f6900, 7, 0, 4, 10, 14, 1), // EaP-1_i
+    formed!(0x4561502d315f7300, 7, 0, 4, 10, 14, 1), // EaP-1_s
+    formed!(0x4561502d315f7332, 8, 0, 4, 10, 14, 1), // EaP-1_s2
+    formed!(0x4561505f73320000, 6, 0, 4, 10, 14, 1), // EaP_s2
+    formed!(0x46696e502d310000, 6, 0, 17, 17, 1, 1), // FinP-1
+    formed!(0x46696e502d315f32, 8, 0, 17, 17, 1, 1), // FinP-1_2
+    formed!(0x4d45535552455331, 8, 0, 10, 10, 27, 1), // MESURES1
+    formed!(0x4d45535552455332, 8, 0, 10, 10, 27, 1), // MESURES2
+    formed!(0x4d4f444500000000, 4, 0, 8, 8, 9, 1), // MODE
+    formed!(0x5041314d4e000000, 5, 0, 3, 7, 20, 1), // PA1MN
+    formed!(0x5041315f69000000, 5, 0, 3, 8, 12, 2), // PA1_i
+    formed!(0x5041315f73000000, 5, 0, 3, 8, 12, 2), // PA1_s
+    formed!(0x5041325f69000000, 5, 0, 3, 8, 12, 2), // PA2_i
+    formed!(0x5041325f73000000, 5, 0, 3, 8, 12, 2), // PA2_s
+    formed!(0x5041335f69000000, 5, 0, 3, 8, 12, 2), // PA3_i
+    formed!(0x5041335f73000000, 5, 0, 3, 8, 12, 2), // PA3_s
+    formed!(0x5041345f69000000, 5, 0, 3, 8, 12, 2), // PA4_i
+    formed!(0x5041345f73000000, 5, 0, 3, 8, 12, 2), // PA4_s
+    formed!(0x5041355f69000000, 5, 0, 3, 8, 12, 2), // PA5_i
+    formed!(0x5041355f73000000, 5, 0, 3, 8, 12, 2), // PA5_s
+    formed!(0x5041365f69000000, 5, 0, 3, 8, 12, 2), // PA6_i
+    formed!(0x5041365f73000000, 5, 0, 3, 8, 12, 2), // PA6_s
+    formed!(0x504d41585f690000, 6, 0, 3, 8, 16, 2), // PMAX_i
+    formed!(0x504d41585f730000, 6, 0, 3, 8, 16, 2), // PMAX_s
+    formed!(0x5052454156495300, 7, 0, 3, 4, 18, 2), // PREAVIS
+    formed!(0x5052454156495331, 8, 0, 6, 6, 7, 1), // PREAVIS1
+    formed!(0x5052454156495332, 8, 0, 6, 6, 7, 1), // PREAVIS2
+    formed!(0x5053000000000000, 2, 0, 3, 8, 16, 2), // PS
+    formed!(0x5054434f55523100, 7, 0, 1, 3, 28, 1), // PTCOUR1
+    formed!(0x5054434f55523200, 7, 0, 1, 3, 28, 1), // PTCOUR2
+    formed!(0x544152494644594e, 8, 0, 5, 7, 5, 2), // TARIFDYN
+    formed!(0x5444594e31434400, 7, 0, 21, 21, 8, 1), // TDYN1CD
+    formed!(0x5444594e31434600, 7, 0, 21, 21, 8, 1), // TDYN1CF
+    formed!(0x5444594e31464400, 7, 0, 21, 21, 8, 1), // TDYN1FD
+    formed!(0x5444594e31464600, 7, 0, 21, 21, 8, 1), // TDYN1FF
+    formed!(0x5444594e32434400, 7, 0, 21, 21, 8, 1), // TDYN2CD
+    formed!(0x5444594e32434600, 7, 0, 21, 21, 8, 1), // TDYN2CF
+    formed!(0x5444594e32464400, 7, 0, 21, 21, 8, 1), // TDYN2FD
+    formed!(0x5444594e32464600, 7, 0, 21, 21, 8, 1), // TDYN2FF
+    formed!(0x54475048495f6900, 7, 0, 4, 8, 21, 5), // TGPHI_i
+    formed!(0x54475048495f7300, 7, 0, 4, 8, 21, 5), // TGPHI_s
+    formed!(0x5452414d45000000, 5, 0, 4, 4, 0, 1), // TRAME
 ];
 
 // A form: the fewest and the most characters of such data, and their picture. In a picture 9 stands for a digit, 0 for a

@@ -1,5 +1,5 @@
 -- The row that has the label's key, if there is one, decides.
-use Rattle.std.proofs.Common.{◌∙◌, sym, arith}
+use Rattle.std.proofs.Common.{◌≡◌, ◌∙◌, sym, arith, length, take, length-take}
 use Rattle.characters.specs.Answers.{pick}
 use Rattle.groups.proofs.Search.{short, no_bytes, too_many}
 use Rattle.groups.proofs.find.find.Goals as goal
@@ -23,13 +23,15 @@ pub returns-then-is_named : goal.returns-then-is_named
 unfolding pick
 returns-then-is_named c =
     let fits = short c.args.n c.args.text.now (λ i. omega (arith, c.type_inv.text i)) c.requires c.if-n-eq0.false c.if-n-gt-LONGEST.false in
+    let long : length (take c.args.n c.args.text.now) ≡ c.args.n = simp length-take (omega (arith, c.requires)) in
     let named = sym c.is_named.ensures ∙ c.if-is_named.true in
-    sym (c.in_ok-row.ensures _ fits (sym c.key_of.ensures) ∙ rw (← c.tail_of.ensures, named, c.rule_in.ensures))
+    sym (c.in_ok-row.ensures _ fits (sym c.key_of.ensures) ∙ rw (long, ← c.ninth_of.ensures, named))
 
 -- one has, and is of another label
 pub returns-else-is_named : goal.returns-else-is_named
 unfolding pick
 returns-else-is_named c =
     let fits = short c.args.n c.args.text.now (λ i. omega (arith, c.type_inv.text i)) c.requires c.if-n-eq0.false c.if-n-gt-LONGEST.false in
+    let long : length (take c.args.n c.args.text.now) ≡ c.args.n = simp length-take (omega (arith, c.requires)) in
     let other = sym c.is_named.ensures ∙ c.if-is_named.false in
-    sym (c.in_ok-row.ensures _ fits (sym c.key_of.ensures) ∙ rw (← c.tail_of.ensures, other))
+    sym (c.in_ok-row.ensures _ fits (sym c.key_of.ensures) ∙ rw (long, ← c.ninth_of.ensures, other))
