@@ -1,6 +1,7 @@
 -- The definitions over lists, as a loop from the front uses them: at a place, what is left decides.
-use Rattle.std.proofs.Common.{◌≡◌, refl, sym, ap, ◌∙◌, Bool, true, false, ◌&&◌, cond, List, [], ◌∷◌, ◌++◌, ℕ, suc, ◌+◌, ◌-◌, ◌%◌, ◌<◌, ◌≤◌, min, add-one, arith, T, eqb, leb, leb→le, length, get_or, take, drop, drop_of_length-le, length-drop, length-take, drop-cons, get_or-drop, take-add, take_all, eq-eqb, ne_eqb, eqb-true}
+use Rattle.std.proofs.Common.{◌≡◌, refl, sym, ap, ◌∙◌, Bool, true, false, ◌&&◌, cond, List, [], ◌∷◌, ◌++◌, ℕ, suc, ◌+◌, ◌-◌, ◌%◌, ◌<◌, ◌≤◌, min, add-one, arith, T, eqb, leb, leb→le, length, get_or, take, drop, drop_of_length-le, length-drop, length-take, drop-cons, get_or-drop, take-add, take_all, take-append-drop, drop-drop, eq-eqb, ne_eqb, eqb-true}
 use Rattle.std.proofs.lemmas.Bool.{eqb-false}
+use Rattle.std.proofs.lemmas.List.Folds.{prefix_len-append}
 use Rattle.std.proofs.Math.Facts.{and_yes}
 use Rattle.characters.specs.Answers.{every, every_at, from_true, is_true, pick}
 use Rattle.characters.specs.Passing.{Pass}
@@ -8,7 +9,7 @@ use Rattle.groups.specs.Kinds.{of_kind}
 use Rattle.groups.specs.Modes.{separator, counted_at_end}
 use Rattle.groups.specs.Groups.{total, check}
 use Rattle.groups.specs.Conditions.{first_at}
-use Rattle.groups.specs.Inside.{check_from, ContentWalk, FrontSum, StartsWith}
+use Rattle.groups.specs.Inside.{check_from, ContentWalk, FrontSum, RightUpTo, StartsWith}
 use Rattle.groups.proofs.Laws.Tests.{split}
 use Rattle.groups.proofs.Laws.Conditions.{front_behind}
 use Rattle.groups.specs.declared.Mode.{Mode}
@@ -70,6 +71,33 @@ all_right f c e = sym (wrong_nowhere f c) ∙ eq-eqb _ _ e
 
 pub some_wrong : (f : ℕ → Bool) (c : List ℕ) → (prefix_len f c ≡ length c → ⊥) → every f c ≡ false
 some_wrong f c e = sym (wrong_nowhere f c) ∙ ne_eqb _ _ e
+
+-- tests in one chain that none leaves
+folded_every : (f : ℕ → Bool) (right : Bool) (c : List ℕ) → fold (λ right x. right && f x) right c ≡ (right && every f c)
+folded_every f true [] = refl
+folded_every f false [] = refl
+folded_every f true (x ∷ c) = folded_every f (f x) c
+folded_every f false (x ∷ c) = folded_every f false c
+
+-- what follows as many that pass decides
+all_passed : (f : ℕ → Bool) (c rest : List ℕ) → every f c ≡ true → prefix_len f (c ++ rest) ≡ length c + prefix_len f rest
+all_passed f c rest e = rw (prefix_len-append f c rest, wrong_nowhere f c, e)
+
+-- eight that pass, from a place on, are counted with those before it
+pub eight_further : (f : ℕ → Bool) (c : List ℕ) (i : ℕ) (eight : List ℕ) → RightUpTo f c i
+    → eight ≡ take 8 (take (length c - i) (drop i c)) → length eight ≡ 8 → fold (λ right x. right && f x) true eight ≡ true
+    → RightUpTo f c (i + 8)
+eight_further f c i eight r e n right =
+    let cut : eight ≡ take 8 (drop i c) = e ∙ ap (take 8) (to_end i c) in
+    let long = ap length cut in
+    let on : prefix_len f (drop i c) ≡ length eight + prefix_len f (drop 8 (drop i c)) =
+    ap (prefix_len f) (sym (take-append-drop 8 (drop i c)) ∙ rw cut)
+    ∙ all_passed f eight (drop 8 (drop i c)) (sym (folded_every f true eight) ∙ right) in
+    (omega (arith, length-take 8 (drop i c), length-drop i c), omega (arith, r.1, n, rw (drop-drop) at on))
+
+-- the rest, one by one
+pub right_to_end : (f : ℕ → Bool) (c : List ℕ) (i : ℕ) → RightUpTo f c i → i + prefix_len f (take (length c - i) (drop i c)) ≡ prefix_len f c
+right_to_end f c i r = rw (to_end i c) (sym r.1)
 
 -- where all from a place on pass, each does
 right_behind : (f : ℕ → Bool) (c : List ℕ) (a : ℕ) → every f (drop a c) ≡ true → Pass f c a (length c)

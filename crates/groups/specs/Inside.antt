@@ -1,6 +1,7 @@
 -- What only the contracts of private functions cite: views of the definitions in the code's own types, and how the code
 -- goes about its work. No promise rests on a reader's belief in these.
 use Rattle.std.specs.Prelude.{◌≡◌, Bool, List, ◌∷◌, ◌++◌, ℕ, ◌+◌, ◌-◌, ◌%◌, ◌≤◌, T as So, length, take, drop, Result, Ok, Err, Option as StoredOption, Some, None}
+use Rattle.std.specs.List.{prefix_len}
 use Rattle.std.proofs.Math.Option.{some}
 use Rattle.std.proofs.lemmas.List.Edits.{sets}
 use Rattle.characters.specs.Answers.{Answer, refused, given, pick}
@@ -75,6 +76,10 @@ judged_in m c =
     told_at (read m c) (next_place m c) (wrong_place (next_place m c) (body_of m c) (lookup (label_of m c) (rows m)))
 
 -- ---- Walks
+
+-- the first n elements pass a test, so that the first that fails is the first in what is left
+abbrev pub RightUpTo : (ℕ → Bool) → List ℕ → ℕ → Type 0
+RightUpTo f c n = (n ≤ length c) × (prefix_len f c ≡ n + prefix_len f (drop n c))
 
 -- the first of a code in a text, the length where there is none, and the sum of all before it, by 256
 pub record LabelWalk (code : ℕ) (text : List ℕ) (first sum : ℕ) : Type 0 where

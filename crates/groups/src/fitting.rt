@@ -1,12 +1,12 @@
 // What a rule asks of stamp and data; reader and writer both ask it.
-ghost use Rattle.std.specs.Prelude.{◌≡◌, ◌≤◌, length};
+ghost use Rattle.std.specs.Prelude.{◌≡◌, true, ◌&&◌, ◌≤◌, fold, length};
 ghost use Rattle.std.specs.List.{prefix_len};
 ghost use Rattle.groups.specs.Kinds.{of_kind};
 ghost use Rattle.groups.specs.Forms.{takes};
 ghost use Rattle.groups.specs.Formats.{forms as forms_of};
 ghost use Rattle.groups.specs.Stored.{plain_rule, formed_rule, rule_of, form_in, formats_from};
 ghost use Rattle.groups.specs.Place.{agreed as agreed_of, reach as reach_of, furthest as furthest_of, first_wrong};
-ghost use Rattle.groups.specs.Inside.{fields_in, fitness};
+ghost use Rattle.groups.specs.Inside.{fields_in, fitness, RightUpTo};
 
 use crate::group::Group;
 use crate::table::{Form, Forms, Kind, Plain, Rule};
@@ -17,16 +17,60 @@ pub(crate) fn of_kind(kind: Kind, code: u8) -> bool
 {
     match kind {
         Kind::Digits => matches!(code, b'0'..=b'9'),
-        Kind::Hex => matches!(code, b'0'..=b'9' | b'A'..=b'F'),
+        // in two, since with both ranges in one the compiler tests the eight of a chain one by one
+        Kind::Hex => matches!(code, b'0'..=b'9') | matches!(code, b'A'..=b'F'),
         Kind::Text => matches!(code, b' '..=b'~'),
     }
 }
 
-// The place of the first character that is not of the kind; the length where all are.
-pub(crate) fn wrong_at(kind: Kind, text: &[u8]) -> usize
+// Whether eight characters are of the kind. No test leaves the chain, so that the compiler tests all eight at once.
+fn eight_of_kind(kind: Kind, eight: &[u8; 8]) -> bool
+    ensures { result ≡ fold (λ right code. right && of_kind kind code) true eight.now }
+{
+    eight
+        .iter()
+        .fold(true, |right, &code| right & of_kind(kind, code))
+}
+
+// How many characters at the front are of the kind, by eights: the first that is not is none of them.
+fn eights_of_kind(kind: Kind, text: &[u8]) -> usize
+    ensures { RightUpTo (of_kind kind) text.now result }
+{
+    let mut count = 0;
+    while let Some(eight) = text[count..].first_chunk::<8>() {
+        if !eight_of_kind(kind, eight) {
+            return count;
+        }
+        count += 8;
+    }
+    count
+}
+
+// The place of the first character that is not of the kind, looked for one by one; the length where all are.
+fn wrong_among(kind: Kind, text: &[u8]) -> usize
     ensures { result ≡ prefix_len (of_kind kind) text.now }
 {
     text.iter().take_while(|&&code| of_kind(kind, code)).count()
+}
+
+// The same, eight by eight as far as it goes: one by one, data of 98 characters take three times as long.
+fn wrong_by_eights(kind: Kind, text: &[u8]) -> usize
+    ensures { result ≡ prefix_len (of_kind kind) text.now }
+{
+    let count = eights_of_kind(kind, text);
+    count + wrong_among(kind, &text[count..])
+}
+
+// The place of the first character that is not of the kind; the length where all are.
+// Short data, as most are, are not tried by eights: that takes a hundredth less of judging in historic mode.
+pub(crate) fn wrong_at(kind: Kind, text: &[u8]) -> usize
+    ensures { result ≡ prefix_len (of_kind kind) text.now }
+{
+    if text.len() < 8 {
+        wrong_among(kind, text)
+    } else {
+        wrong_by_eights(kind, text)
+    }
 }
 
 // Whether a character of a picture takes a character of data.
