@@ -14,10 +14,10 @@ mod writing;
 ghost use Rattle.std.specs.Prelude.{◌≡◌, length};
 ghost use Rattle.groups.specs.Modes.{is_mode};
 ghost use Rattle.groups.specs.Groups.{group_of};
-ghost use Rattle.groups.specs.Judging.{judging, shown, Part};
-ghost use Rattle.groups.specs.Place.{place_of};
+ghost use Rattle.groups.specs.Judging.{judging, shown, stretches_of, Part};
+ghost use Rattle.groups.specs.Place.{place_of, place_told};
 ghost use Rattle.groups.specs.Numbers.{number_of, number_of_refusal, number_of_writing};
-ghost use Rattle.groups.specs.Writing.{writing, Wrote};
+ghost use Rattle.groups.specs.Writing.{writing, count_of, Wrote};
 
 use group::Group;
 
@@ -116,6 +116,38 @@ pub fn write(
     ensures { Wrote (writing mode (group_of label.now stamp.now «data».now) (length buffer.old)) buffer.old result buffer.new }
 {
     writing::write_in(Mode::try_from(mode)?, Group { label, stamp, data }, buffer)
+}
+
+const NOWHERE: Stretch = Stretch {
+    start: 0,
+    length: 0,
+};
+
+const NO_FIELDS: Fields = Fields {
+    label: NOWHERE,
+    stamp: NOWHERE,
+    data: NOWHERE,
+};
+
+// Where a judgement shows the fields: three empty stretches with a refusal.
+pub fn fields_of(judgement: Result<Fields, Fault>) -> Fields
+    ensures { result ≡ stretches_of judgement }
+{
+    judgement.unwrap_or(NO_FIELDS)
+}
+
+// The place that a judgement tells: 0 with an accepted group, which tells none.
+pub fn place_told(judgement: Result<Fields, Fault>) -> usize
+    ensures { result ≡ place_told judgement }
+{
+    judgement.err().map_or(0, |fault| fault.place)
+}
+
+// How many bytes a writing wrote: none where it is refused.
+pub fn count_of(written: Result<usize, Refusal>) -> usize
+    ensures { result ≡ count_of written }
+{
+    written.unwrap_or(0)
 }
 
 // Document 01's number of a judgement.
