@@ -82,7 +82,7 @@ pub extern "C" fn espandim_rows_round(
         (behind marks.new places.new contents.new inboxes.now) sheet.new counts.new }
 {
     let told = station::round(marks, places, contents, inboxes, sheet);
-    *counts = told.unwrap_or([0; 8]);
+    *counts = station::counts_of(told);
     u32::from(station::number_of(told))
 }
 

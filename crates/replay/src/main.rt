@@ -156,7 +156,7 @@ impl<'a> Desk<'a> {
         let told = self.station.round(sheet);
         let number = station::number_of(told);
         write!(self.page, "R {number}")?;
-        for count in told.unwrap_or([0; 8]) {
+        for count in station::counts_of(told) {
             write!(self.page, " {count}")?;
         }
         put_hex(&mut self.page, sheet)?;
@@ -171,18 +171,12 @@ impl<'a> Desk<'a> {
         let judgement = groups::judge(mode, content);
         let number = groups::number_of(judgement);
         write!(self.page, "J {number}")?;
-        match judgement {
-            Ok(fields) => {
-                for field in [fields.label, fields.stamp, fields.data] {
-                    put_hex(&mut self.page, groups::part(content, field))?;
-                }
-                writeln!(self.page, " 0")?;
-            }
-            Err(fault) => {
-                let place = fault.place;
-                writeln!(self.page, " - - - {place}")?;
-            }
+        let fields = groups::fields_of(judgement);
+        for field in [fields.label, fields.stamp, fields.data] {
+            put_hex(&mut self.page, groups::part(content, field))?;
         }
+        let place = groups::place_told(judgement);
+        writeln!(self.page, " {place}")?;
         Ok(())
     }
 
@@ -199,7 +193,7 @@ impl<'a> Desk<'a> {
         let buffer = &mut room[..size];
         let written = groups::write(mode, label, stamp, data, buffer);
         let number = groups::number_of_writing(written);
-        let length = written.unwrap_or(0);
+        let length = groups::count_of(written);
         write!(self.page, "W {number} {length}")?;
         put_hex(&mut self.page, buffer)?;
         writeln!(self.page)?;

@@ -1,11 +1,11 @@
 -- The ways through the functions of one line's inbox, over plain variables.
-use mathlib.Core.Path.{◌≡◌, refl, ap, ap₂, ◌∙◌}
+use mathlib.Core.Path.{◌≡◌, refl, ap, ap₂, sym, ◌∙◌}
 use mathlib.Core.List.{List, [], ◌++◌}
 use Rattle.std.specs.Prelude.{Result, Ok, Err}
 use Prim.Native.Nat.{ℕ, ◌+◌, ◌-◌, ◌≤◌, ◌<◌}
 use native.Mathlib.Omega.{arith}
-use lib.ListN.{length, take, drop, get_or, set}
-use lib.Seq.{paste, set-get_or}
+use lib.ListN.{length, take, drop, get_or, set, length-append}
+use lib.Seq.{paste, set-get_or, take-append_seam}
 use borrow.Author.Tests.{lt-ltb, le-leb, lt-leb, eq-eqb, ne_eqb}
 use Rattle.characters.specs.Answers.{Answer, refused, given, need}
 use Rattle.station.specs.Lines.{waiting, over, filling}
@@ -16,6 +16,8 @@ use Rattle.station.specs.Records.{StationLine, Station}
 use Rattle.station.specs.declared.Refusal.{Refusal}
 use Rattle.station.specs.declared.Refusal.TheVariants.{NoRoom, LineClosed}
 use Rattle.station.proofs.Copying.{paste_over}
+use Rattle.std.proofs.lemmas.Slice.{put_mid-paste}
+use borrow.Rule.Slice.PartMut.{put_mid}
 use Rattle.station.specs.Memory.{of_rows, line_from, lines_from, station_in}
 use Rattle.station.proofs.Laws.Memory.{EightRows, row_inside, line_at_lem, line_set}
 use Rattle.station.specs.CallContracts.{called_as, Delivers}
@@ -32,13 +34,20 @@ waits_are m p c b oldest r e h = h ∙ rw e refl
 
 -- ---- Deliveries to a line
 
--- what waits, copied to the front, and the bytes behind it
-laid_is : (inbox oldest bytes x y : List ℕ) → length inbox ≡ 256 → length oldest + length bytes ≤ 256
-    → x ≡ paste inbox 0 oldest (length oldest) → y ≡ paste x (length oldest) bytes (length bytes)
-    → y ≡ over (oldest ++ bytes) inbox
-laid_is inbox oldest bytes x y long h p q =
-    let z : x ≡ over oldest inbox = p ∙ paste_over [] inbox oldest 0 refl (omega arith) in
-    q ∙ rw z (paste_over oldest inbox bytes (length oldest) refl (omega arith))
+-- what waits, copied to the front of a room, and the bytes behind it
+laid_is : (room oldest bytes x y : List ℕ) → length room ≡ 256 → length oldest + length bytes ≤ 256
+    → x ≡ paste room 0 oldest (length oldest) → y ≡ paste x (length oldest) bytes (length bytes)
+    → y ≡ over (oldest ++ bytes) room
+laid_is room oldest bytes x y long h p q =
+    let z : x ≡ over oldest room = p ∙ paste_over [] room oldest 0 refl (omega arith) in
+    q ∙ rw z (paste_over oldest room bytes (length oldest) refl (omega arith))
+
+-- and these, copied from the room to the front of the inbox
+put_is : (inbox room bytes front put y : List ℕ) (n : ℕ) → length inbox ≡ 256 → n ≤ 256 → length bytes ≡ n → front ≡ take n (over bytes room)
+    → put ≡ front → y ≡ put_mid 0 n inbox put → y ≡ over bytes inbox
+put_is inbox room bytes front put y n long h m e f p =
+    let z : front ≡ bytes = e ∙ rw (← m) (take-append_seam bytes (drop (length bytes) room)) in
+    p ∙ put_mid-paste 0 n inbox put bytes n (f ∙ z) refl (sym m) ∙ rw (← m) (paste_over [] inbox bytes 0 refl (omega (arith, m)))
 
 -- 17
 pub fill_closed : (l : StationLine) (bytes : List ℕ) → l.opened ≡ 0 → Fills l bytes (Err LineClosed) l
@@ -58,8 +67,9 @@ module _ (l : StationLine) (long : length l.inbox ≡ 256) (oldest : List ℕ) (
       let f = lt-leb (length (waiting l) + length bytes) 256 (omega (arith, waiting_most l long)) in
       record { reply_is = rw (e, f); line_is = rw (e, f) }
 
-  pub fill_done : length bytes ≤ 256 - length oldest → (moved inbox : List ℕ)
-      → moved ≡ paste l.inbox 0 oldest (length oldest) → inbox ≡ paste moved (length oldest) bytes (length bytes)
+  pub fill_done : length bytes ≤ 256 - length oldest → (room moved laid front put inbox : List ℕ) → length room ≡ 256
+      → moved ≡ paste room 0 oldest (length oldest) → laid ≡ paste moved (length oldest) bytes (length bytes)
+      → front ≡ take (length oldest + length bytes) laid → put ≡ front → inbox ≡ put_mid 0 (length oldest + length bytes) l.inbox put
       → Fills l bytes (Ok tt)
       (record {
         opened = l.opened;
@@ -70,11 +80,13 @@ module _ (l : StationLine) (long : length l.inbox ≡ 256) (oldest : List ℕ) (
         inbox = inbox;
       })
   unfolding filling need
-  fill_done k moved inbox p q =
+  fill_done k room moved laid front put inbox wide p q t u r =
       let e = ne_eqb l.opened 0 h in
       let n : length oldest ≡ length (waiting l) = ap length w in
       let f = le-leb (length (waiting l) + length bytes) 256 (omega (arith, waiting_most l long)) in
-      let i = laid_is l.inbox oldest bytes moved inbox long (omega (arith, waiting_most l long)) p q in
+      let j = laid_is room oldest bytes moved laid wide (omega (arith, waiting_most l long)) p q in
+      let i = put_is l.inbox room (oldest ++ bytes) front put inbox _ long (omega (arith, waiting_most l long))
+      (length-append oldest bytes) (t ∙ ap (take (length oldest + length bytes)) j) u r in
       record { reply_is = rw (e, f); line_is = rw (i, e, f, w) }
 
 -- ---- Deliveries to the station

@@ -23,6 +23,7 @@ mod turn;
 
 ghost use Rattle.std.specs.Prelude.{◌≡◌};
 ghost use Rattle.station.specs.Numbers.{number_of};
+ghost use Rattle.station.specs.Rounds.{counts_of};
 ghost use Rattle.station.specs.Memory.{behind};
 ghost use Rattle.station.specs.CallContracts.{Opens, Delivers, Serves};
 
@@ -115,6 +116,13 @@ pub fn round(
         return Err(Refusal::SheetShort);
     }
     Ok(serve::serve(marks, places, contents, inboxes, sheet))
+}
+
+// How many bytes each turn took: eight zeros where the round is refused.
+pub fn counts_of(told: Result<[u8; 8], Refusal>) -> [u8; 8]
+    ensures { result ≡ counts_of told }
+{
+    told.unwrap_or([0; 8])
 }
 
 // Document 01's number of what a call returned.

@@ -7,4 +7,4 @@ use Rattle.espandim.proofs.espandim_rows_round.Goals as goal
 pub returns : goal.returns
 returns c =
     round_told (behind c.args.marks.now c.args.places.now c.args.contents.now c.args.inboxes.now) _ c.args.sheet.now _ _ _ _
-    c.round-told.ensures (c.from.ensures ∙ c.number_of.ensures) c.unwrap_or.ensures
+    c.round-told.ensures (c.from.ensures ∙ c.number_of.ensures) c.counts_of.ensures
