@@ -1,11 +1,18 @@
 // Standard input, taken byte by byte from a piece that holds what one read brought.
-ghost use Rattle.std.specs.Prelude.{◌+◌, ◌*◌, ◌≤◌, ◌<◌, length, IfOk};
+ghost use Rattle.std.specs.Prelude.{◌≡◌, ◌+◌, ◌*◌, ◌≤◌, ◌<◌, length, IfOk};
 
 use crate::Stop;
 use streams::Streams;
 
 // The bytes of a piece, and the most that a record may have as its n.
 const SIZE: usize = 4096;
+
+// The number with these two bytes.
+fn of_two(low: u8, high: u8) -> usize
+    ensures { result ≡ low + 256 * high }
+{
+    usize::from(u16::from_le_bytes([low, high]))
+}
 
 // Where the taking stands: the bytes of the piece from place `next` up to `end` wait, and `before` bytes of the input went
 // before the piece.
@@ -70,7 +77,7 @@ impl<'a> Input<'a> {
     pub(crate) fn take_length(&mut self) -> Result<usize, Stop>
         ensures { IfOk result (λ count. count ≤ 4096) }
     {
-        let count = usize::from(u16::from_le_bytes([self.take()?, self.take()?]));
+        let count = of_two(self.take()?, self.take()?);
         if SIZE < count {
             return Err(Stop::Overlong);
         }

@@ -66,14 +66,15 @@ fn comes_again(mode: u8, fields: Fields, content: &[u8]) -> bool {
 fn put_group(page: &mut Page, mode: u8, content: &[u8]) -> Result<(), Stopped> {
     let judgement = groups::judge(mode, content);
     let number = groups::number_of(judgement);
+    let place = groups::place_told(judgement);
+    write!(page, "{number} {place}")?;
     match judgement {
         Ok(fields) => {
-            write!(page, "{number} 0")?;
             put_fields(page, fields, content)?;
             let again = comes_again(mode, fields, content);
             page.put_all(if again { b"\nsame\n" } else { b"\nother\n" })
         }
-        Err(fault) => Ok(writeln!(page, "{number} {}", fault.place)?),
+        Err(_) => page.put_all(b"\n"),
     }
 }
 
