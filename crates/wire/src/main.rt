@@ -7,7 +7,7 @@
 // being captured is shown as it comes, and a long capture takes few writes.
 #![tactic(auto)]
 
-ghost use Rattle.std.specs.Prelude.{length, ◌+◌, ◌<◌, ◌≤◌};
+ghost use Rattle.std.specs.Prelude.{length, ◌≡◌, ◌+◌, ◌<◌, ◌≤◌, OnOk};
 
 use characters::{CR, EOT, ETX, HT, LF, SP, STX};
 use streams::{Page, Stopped, Streams};
@@ -22,32 +22,45 @@ fn digit(number: u8) -> u8
     b"0123456789abcdef"[number as usize]
 }
 
-// What a sound byte is, behind its hex: at most four bytes.
-fn put_sound(page: &mut Page, code: u8) -> Result<(), Stopped>
-    ensures { length page.new ≤ length page.old + 4 }
+// Lays the line of a byte where there is room for it: the byte in hex, a space, and what it is, with the LF. The digits are laid
+// by hand: with `write!` the program takes more than six times the instructions.
+fn put_line<const N: usize>(page: &mut Page, wire: u8, what: &[u8; N]) -> Result<(), Stopped>
+    requires { length page.old + 3 + N ≤ 4096 }
+    ensures whole { OnOk result (length page.new ≡ length page.old + 3 + N) }
+    ensures most { length page.new ≤ length page.old + 3 + N }
 {
+    page.put_array(&[digit(wire / 16), digit(wire % 16), b' '])?;
+    page.put_array(what)
+}
+
+// The line of a sound byte.
+fn put_sound(page: &mut Page, wire: u8) -> Result<(), Stopped>
+    requires { length page.old + LONGEST ≤ 4096 }
+    ensures { length page.new ≤ length page.old + 11 }
+{
+    let code = characters::character(wire);
     match code {
-        STX => page.put_array(b"STX\n"),
-        ETX => page.put_array(b"ETX\n"),
-        EOT => page.put_array(b"EOT\n"),
-        HT => page.put_array(b"HT\n"),
-        LF => page.put_array(b"LF\n"),
-        CR => page.put_array(b"CR\n"),
-        SP => page.put_array(b"SP\n"),
-        0x21..=0x7E => page.put_array(&[code, b'\n']),
-        _ => page.put_array(&[digit(code / 16), digit(code % 16), b'\n']),
+        STX => put_line(page, wire, b"STX\n"),
+        ETX => put_line(page, wire, b"ETX\n"),
+        EOT => put_line(page, wire, b"EOT\n"),
+        HT => put_line(page, wire, b"HT\n"),
+        LF => put_line(page, wire, b"LF\n"),
+        CR => put_line(page, wire, b"CR\n"),
+        SP => put_line(page, wire, b"SP\n"),
+        0x21..=0x7E => put_line(page, wire, &[code, b'\n']),
+        _ => put_line(page, wire, &[digit(code / 16), digit(code % 16), b'\n']),
     }
 }
 
-// Lays the line of a byte. The digits are laid by hand: with `write!` the program takes more than six times the instructions.
+// The line of a byte, whole on a page that has room for the longest.
 fn put(page: &mut Page, wire: u8) -> Result<(), Stopped>
+    requires { length page.old + LONGEST ≤ 4096 }
     ensures { length page.new ≤ length page.old + 11 }
 {
-    page.put_array(&[digit(wire / 16), digit(wire % 16), b' '])?;
     if characters::sound(wire) {
-        put_sound(page, characters::character(wire))
+        put_sound(page, wire)
     } else {
-        page.put_array(b"unsound\n")
+        put_line(page, wire, b"unsound\n")
     }
 }
 
