@@ -25,6 +25,18 @@ impl<'a> Model for Page<'a> {
     ghost invariant = { λ page. page.end ≤ 4096 };
 }
 
+// Lays an array into a room of its length. Not by `copy_from_slice`, which asks at run time whether one lies over the other: for
+// that the compiler keeps each array in memory first, and `wire` takes two fifths more instructions.
+fn fill<const N: usize>(room: &mut [u8], bytes: &[u8; N])
+    requires { length room.old ≡ N }
+    ensures { room.new ≡ bytes.now }
+{
+    let Some(room) = room.as_mut_array() else {
+        unreachable!()
+    };
+    *room = *bytes;
+}
+
 impl<'a> Page<'a> {
     pub fn new(streams: Streams<'a>) -> Page<'a>
         ensures { result ≡ [] }
@@ -74,6 +86,22 @@ impl<'a> Page<'a> {
         for byte in bytes {
             self.put(*byte)?;
         }
+        Ok(())
+    }
+
+    // Lays an array whole on a page, all at once: where it doesn't fit behind those that wait, they are written first. One that is
+    // longer than a page is laid as any bytes are.
+    pub fn put_array<const N: usize>(&mut self, bytes: &[u8; N]) -> Result<(), Stopped>
+        ensures ok { OnOk result (self.new ≡ with_bytes (with_room self.old N) bytes.now) }
+        ensures err { N ≤ 4096 → OnErr result (self.new ≡ self.old) }
+    {
+        self.make_room(N)?;
+        if SIZE < N {
+            return self.put_all(bytes);
+        }
+        let end = self.end + N;
+        fill(&mut self.bytes[self.end..end], bytes);
+        self.end = end;
         Ok(())
     }
 }

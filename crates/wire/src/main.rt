@@ -7,36 +7,60 @@
 // being captured is shown as it comes, and a long capture takes few writes.
 #![tactic(auto)]
 
+ghost use Rattle.std.specs.Prelude.{length, ◌≡◌, ◌+◌, ◌<◌, ◌≤◌, OnOk};
+
 use characters::{CR, EOT, ETX, HT, LF, SP, STX};
-use std::fmt;
-use std::fmt::Write;
 use streams::{Page, Stopped, Streams};
 
 // The longest line is that of an unsound byte: two digits, a space, `unsound` and an LF.
 const LONGEST: usize = 11;
 
-// What a sound byte is, behind its hex.
-fn put_sound(page: &mut Page, code: u8) -> fmt::Result {
+// A digit, in hex.
+fn digit(number: u8) -> u8
+    requires { number < 16 }
+{
+    b"0123456789abcdef"[number as usize]
+}
+
+// Lays the line of a byte where there is room for it: the byte in hex, a space, and what it is, with the LF. The digits are laid
+// by hand: with `write!` the program takes more than six times the instructions.
+fn put_line<const N: usize>(page: &mut Page, wire: u8, what: &[u8; N]) -> Result<(), Stopped>
+    requires { length page.old + 3 + N ≤ 4096 }
+    ensures whole { OnOk result (length page.new ≡ length page.old + 3 + N) }
+    ensures most { length page.new ≤ length page.old + 3 + N }
+{
+    page.put_array(&[digit(wire / 16), digit(wire % 16), b' '])?;
+    page.put_array(what)
+}
+
+// The line of a sound byte.
+fn put_sound(page: &mut Page, wire: u8) -> Result<(), Stopped>
+    requires { length page.old + LONGEST ≤ 4096 }
+    ensures { length page.new ≤ length page.old + 11 }
+{
+    let code = characters::character(wire);
     match code {
-        STX => writeln!(page, "STX"),
-        ETX => writeln!(page, "ETX"),
-        EOT => writeln!(page, "EOT"),
-        HT => writeln!(page, "HT"),
-        LF => writeln!(page, "LF"),
-        CR => writeln!(page, "CR"),
-        SP => writeln!(page, "SP"),
-        0x21..=0x7E => writeln!(page, "{}", code as char),
-        _ => writeln!(page, "{code:02x}"),
+        STX => put_line(page, wire, b"STX\n"),
+        ETX => put_line(page, wire, b"ETX\n"),
+        EOT => put_line(page, wire, b"EOT\n"),
+        HT => put_line(page, wire, b"HT\n"),
+        LF => put_line(page, wire, b"LF\n"),
+        CR => put_line(page, wire, b"CR\n"),
+        SP => put_line(page, wire, b"SP\n"),
+        0x21..=0x7E => put_line(page, wire, &[code, b'\n']),
+        _ => put_line(page, wire, &[digit(code / 16), digit(code % 16), b'\n']),
     }
 }
 
-// Lays the line of a byte.
-fn put(page: &mut Page, wire: u8) -> fmt::Result {
-    write!(page, "{wire:02x} ")?;
+// The line of a byte, whole on a page that has room for the longest.
+fn put(page: &mut Page, wire: u8) -> Result<(), Stopped>
+    requires { length page.old + LONGEST ≤ 4096 }
+    ensures { length page.new ≤ length page.old + 11 }
+{
     if characters::sound(wire) {
-        put_sound(page, characters::character(wire))
+        put_sound(page, wire)
     } else {
-        writeln!(page, "unsound")
+        put_line(page, wire, b"unsound\n")
     }
 }
 
