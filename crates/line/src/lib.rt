@@ -96,7 +96,7 @@ pub fn feed(line: LineState, content: &mut [u8; 128], bytes: &[u8]) -> Taken
     }
     let mut at = Line::from(line);
     let mut rest = bytes;
-    loop {
+    while !rest.is_empty() {
         let row = rows::take_row(at, content, rest);
         let Some((&byte, behind)) = rest[row.count..].split_first() else {
             return Taken {
@@ -119,6 +119,11 @@ pub fn feed(line: LineState, content: &mut [u8; 128], bytes: &[u8]) -> Taken
                 };
             }
         }
+    }
+    Taken {
+        line: LineState::from(at),
+        count: bytes.len(),
+        heard: Heard::Nothing,
     }
 }
 

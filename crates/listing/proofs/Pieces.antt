@@ -13,7 +13,6 @@ use Rattle.listing.specs.declared.Ear.{Ear}
 use Rattle.line.specs.declared.Taken.{Taken}
 use Rattle.listing.specs.Listing.{lines_for}
 use Rattle.listing.specs.Parts.{heard_by, lines_heard, Lists}
-use Rattle.listing.specs.declared.Listed.{Listed}
 
 module _ (e : Ear) (bytes : List ℕ) (long : length e.content ≡ 128) (taken : Taken) (left : List ℕ)
     (f : Fed (fed 0 e.line e.content bytes) taken left) where
@@ -23,7 +22,7 @@ module _ (e : Ear) (bytes : List ℕ) (long : length e.content ≡ 128) (taken :
 
   -- with the line of what was heard for its text, this is what the stretch lists
   pub taken_lists : (text : ArrayVec ℕ) → text.items ≡ lines_heard taken.heard left
-      → Lists e bytes (record { count = taken.count; text = text }) (record { line = taken.line; content = left })
+      → Lists e bytes taken.count (record { line = taken.line; content = left }) text
   unfolding lines_heard
   taken_lists text h =
       let v = taken_view e.line e.content bytes long taken left f in
@@ -38,26 +37,26 @@ module _ (e : Ear) (bytes : List ℕ) (long : length e.content ≡ 128) (taken :
 
 -- ---- A piece, stretch by stretch
 
-module _ (e : Ear) (bytes : List ℕ) (r : Listed) (f : Ear) (n : Lists e bytes r f) where
+module _ (e : Ear) (bytes : List ℕ) (count : ℕ) (f : Ear) (text : ArrayVec ℕ) (n : Lists e bytes count f text) where
   -- a stretch of some bytes takes at least one
-  pub stretch_some : 1 ≤ length bytes → 1 ≤ r.count
+  pub stretch_some : 1 ≤ length bytes → 1 ≤ count
   stretch_some h = let some = until_some e.line.mode (heard_by e) bytes h in omega (arith, n.count_is)
 
   -- and no more than there are
-  pub stretch_most : r.count ≤ length bytes
+  pub stretch_most : count ≤ length bytes
   stretch_most = let most = until_most e.line.mode (heard_by e) bytes in omega (arith, n.count_is)
 
   -- so less is left
-  pub stretch_less : 1 ≤ length bytes → length (take (length bytes - r.count) (drop r.count bytes)) < length bytes
-  stretch_less h = rest_less bytes r.count (stretch_some h) h
+  pub stretch_less : 1 ≤ length bytes → length (take (length bytes - count) (drop count bytes)) < length bytes
+  stretch_less h = rest_less bytes count (stretch_some h) h
 
   -- what is left leads from there where all of them lead
-  pub stretch_leads : after f.line.mode (heard_by f) (take (length bytes - r.count) (drop r.count bytes))
+  pub stretch_leads : after f.line.mode (heard_by f) (take (length bytes - count) (drop count bytes))
       ≡ after e.line.mode (heard_by e) bytes
   stretch_leads =
-      rw (n.line_is, n.same_mode, rest_is bytes r.count)
-      (sym (after_append e.line.mode (heard_by e) (take r.count bytes) (drop r.count bytes))
-      ∙ ap (after e.line.mode (heard_by e)) (take-append-drop r.count bytes))
+      rw (n.line_is, n.same_mode, rest_is bytes count)
+      (sym (after_append e.line.mode (heard_by e) (take count bytes) (drop count bytes))
+      ∙ ap (after e.line.mode (heard_by e)) (take-append-drop count bytes))
 
 -- no bytes lead nowhere else
 pub none_lead : (mode : ℕ) (s : State) (bytes : List ℕ) → length bytes ≡ 0 → after mode s bytes ≡ s

@@ -24,22 +24,23 @@ struct Ear {
     content: [u8; 128],
 }
 
-// What came of a stretch of bytes: how many the line took, and the text of its answer.
-#[derive(Drop)]
+// What became of a stretch of bytes: the line afterwards, and how many it took.
+#[derive(Clone, Copy)]
 struct Listed {
+    line: LineState,
     count: usize,
-    text: Text,
 }
 
-// Takes bytes up to one that gives an answer, and lays its line.
-fn list_next(ear: &mut Ear, bytes: &[u8]) -> Listed
-    ensures { Lists ear.old bytes.now result ear.new }
+// Takes bytes up to one that gives an answer, and lays its line into the text. The two parts of an ear come apart, so that
+// the line stays in registers from answer to answer.
+fn list_next(line: LineState, content: &mut [u8; 128], bytes: &[u8], text: &mut Text) -> Listed
+    ensures { Lists (record { line = line; content = content.old }) bytes.now result.count (record { line = result.line; content = content.new }) text.new }
 {
-    let taken = line::feed(ear.line, &mut ear.content, bytes);
-    ear.line = taken.line;
+    let taken = line::feed(line, content, bytes);
+    text::put_line(text, taken.heard, content);
     Listed {
+        line: taken.line,
         count: taken.count,
-        text: text::line_heard(taken.heard, &ear.content),
     }
 }
 
@@ -47,12 +48,16 @@ fn list_next(ear: &mut Ear, bytes: &[u8]) -> Listed
 fn list_piece(streams: &Streams, ear: &mut Ear, piece: &[u8]) -> Result<(), Stopped>
     ensures { OnOk result (Goes ear.old piece.now ear.new) }
 {
+    let mut text = Text::new();
+    let mut line = ear.line;
     let mut rest = piece;
     while !rest.is_empty() {
-        let listed = list_next(ear, rest);
-        streams.print(listed.text.as_slice())?;
+        let listed = list_next(line, &mut ear.content, rest, &mut text);
+        streams.print(text.as_slice())?;
+        line = listed.line;
         rest = &rest[listed.count..];
     }
+    ear.line = line;
     Ok(())
 }
 

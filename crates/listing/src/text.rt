@@ -1,5 +1,5 @@
 // The lines of the listing, laid into a text before they are written, so that contracts can say what they are.
-ghost use Rattle.std.specs.Prelude.{◌≡◌, ◌∷◌, ◌++◌, ◌+◌, ◌≤◌, length};
+ghost use Rattle.std.specs.Prelude.{[], ◌≡◌, ◌∷◌, ◌++◌, ◌+◌, ◌≤◌, length};
 ghost use Rattle.arrayvec.specs.ArrayVec.{array_vec_len};
 ghost use Rattle.characters.specs.Wire.{SP};
 ghost use Rattle.groups.specs.Groups.{group_of};
@@ -74,7 +74,12 @@ fn put_stamp(text: &mut Text, stamp: &[u8])
     requires { array_vec_len text.old + 2 + length stamp.now ≤ LONGEST }
     ensures { text.new.items ≡ text.old.items ++ SP ∷ stamp_or_dash stamp.now }
 {
-    put_field(text, if stamp.is_empty() { b"-" } else { stamp });
+    if stamp.is_empty() {
+        text.push(SP);
+        text.push(b'-');
+    } else {
+        put_field(text, stamp);
+    }
 }
 
 // Label, stamp and data of an accepted group.
@@ -88,30 +93,43 @@ fn put_fields(text: &mut Text, label: &[u8], stamp: &[u8], data: &[u8])
     put_field(text, data);
 }
 
-// The line of what was heard; nothing heard has none.
-pub(crate) fn line_heard(heard: Heard, content: &[u8; 128]) -> Text
-    requires { FieldsInside heard }
-    ensures { result.items ≡ lines_heard heard content.now }
+// The line of an accepted group, whose fields lie in the content, in place of what stood in the text.
+fn put_group(text: &mut Text, fields: Fields, content: &[u8; 128])
+    requires { FieldsInside (Heard.Accepted fields) }
+    ensures { text.new.items ≡ lines_heard (Heard.Accepted fields) content.now }
 {
-    let mut text = Text::new();
+    *text = Text::new();
+    put_number(text, 1);
+    put_fields(
+        text,
+        groups::part(content, fields.label),
+        groups::part(content, fields.stamp),
+        groups::part(content, fields.data),
+    );
+    text.push(LF);
+}
+
+// The line of a notice in place of what stood in the text: its number, and the place of a refused group.
+fn put_told(text: &mut Text, number: u8, place: u8)
+    ensures { text.new.items ≡ (digits number ++ place_shown number place) ++ LF ∷ [] }
+{
+    *text = Text::new();
+    put_number(text, number);
+    put_place(text, number, place);
+    text.push(LF);
+}
+
+// The line of what was heard, in place of what stood in the text; nothing heard has none. One text serves all lines: a new
+// one for each would be copied.
+pub(crate) fn put_line(text: &mut Text, heard: Heard, content: &[u8; 128])
+    requires { FieldsInside heard }
+    ensures { text.new.items ≡ lines_heard heard content.now }
+{
+    let number = line::number_of(heard);
+    let place = line::place_of(heard);
     match heard {
-        Heard::Nothing => {}
-        Heard::Accepted(Fields { label, stamp, data }) => {
-            put_number(&mut text, 1);
-            put_fields(
-                &mut text,
-                groups::part(content, label),
-                groups::part(content, stamp),
-                groups::part(content, data),
-            );
-            text.push(LF);
-        }
-        Heard::Told(_) => {
-            let number = line::number_of(heard);
-            put_number(&mut text, number);
-            put_place(&mut text, number, line::place_of(heard));
-            text.push(LF);
-        }
+        Heard::Nothing => *text = Text::new(),
+        Heard::Accepted(fields) => put_group(text, fields, content),
+        Heard::Told(_) => put_told(text, number, place),
     }
-    text
 }

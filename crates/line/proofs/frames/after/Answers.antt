@@ -18,7 +18,7 @@ next_wraps n h = go (eqb n 65535) refl
 pub returns-then-is_stx : goal.returns-then-is_stx
 unfolding pick
 returns-then-is_stx c =
-    rw (at_stx c.args.frame c.args.byte, sym c.is_stx.ensures ∙ c.if-is_stx.true) (sym (next_wraps c.args.frame (omega arith)))
+    rw (at_stx c.args.frame c.args.byte, sym c.is_stx.ensures ∙ c.if-is_stx.true) (omega (arith, next_wraps c.args.frame (omega arith)))
 
 pub returns : goal.returns
 returns c = sym (at_other c.args.frame c.args.byte (sym c.is_stx.ensures ∙ c.if-is_stx.false))
